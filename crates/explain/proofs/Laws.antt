@@ -257,21 +257,25 @@ moves-rows {n} {w1 = w1} {v5 = v5} few z d t = record {
   run = same-then (z .same) (same-wider 0 working-words (omega arith) (omega arith) (d .same));
 }
 
+-- as many rows as the call tells
+pub told-count : (e : Explanation) → why e .rows ≡ length (rows-told e)
+unfolding why rows-told
+told-count (refusal-at r place) = refl
+told-count no-position = refl
+told-count (told given met) = refl
+
 -- the same in numbers
 pub found : {file : List ℕ} {position : ℕ} {lent held : Working} {room : ℕ} {a : Why} {r : Reasons}
     → Explains-to file position lent room a held → r ≡ reasons-in-numbers a → Found-reasons file position lent room r held
-unfolding reasons-in-numbers why rows-told
-found {file} {position} {lent} {held} {room} {a} {r} x is = record {
-  answered = is ∙ ap reasons-in-numbers (x .answered);
-  fits = rw is (x .fits);
-  held-rows = rw is (rw (x .answered) (go (explanation file position (sizes lent) room) (x .left)));
-  left = x .left;
-}
-  where
-    go : (e : Explanation) → Rows-left (row-table room ∷ sizes lent) lent held (rows-told e) → 2 * why e .rows ≤ length (held .run)
-    go (refusal-at q place) l = l .inside
-    go no-position l = l .inside
-    go (told given met) l = l .inside
+unfolding reasons-in-numbers
+found {file} {position} {lent} {room = room} {a} x is =
+    let n : a .rows ≡ length (rows-told (explanation file position (sizes lent) room)) = ap (λ (w : Why). w .rows) (x .answered) ∙ told-count _ in
+    record {
+      answered = is ∙ ap reasons-in-numbers (x .answered);
+      fits = rw is (x .fits);
+      held-rows = rw is (omega (arith, n, x .left .inside));
+      left = x .left;
+    }
 
 -- the fields of the answer in numbers
 pub numbers-are : (a : Why) {n : ℕ} → n ≡ verdict-number (a .verdict)

@@ -11,15 +11,15 @@ use Rattle.rows.specs.Rows.{rows-held}
 use Rattle.rows.proofs.Leaving.{rows-listed, slices-left}
 use Rattle.precedence.specs.Call.{check-in-numbers, rows-of-check, Found-rows}
 use Rattle.precedence.specs.declared.Late.{Late}
+use Rattle.precedence.proofs.Call.{ordered-count}
 use Rattle.order.specs.Call.{Exact}
 use Rattle.order.specs.Demands.{Kept-promise}
 use Rattle.order.proofs.Demands.{promise}
 
 -- the number of rows is told, and the table has these rows
 rows-number : (e : Checked) → check-in-numbers (ordered e) .rows ≡ length (rows-of-check e)
-unfolding check-in-numbers ordered rows-of-check
-rows-number (refusal-at r place) = refl
-rows-number (listed-rows rs) = refl
+unfolding check-in-numbers
+rows-number e = ordered-count e
 
 table-told : (e : Checked) (table : List Row) → rows-of-check e ++ drop (length (rows-of-check e)) table ≡ table-after e table
 unfolding rows-of-check table-after

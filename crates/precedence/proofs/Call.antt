@@ -282,7 +282,7 @@ refused-orders {file} {lent} {held} {refusal} {place} {room} {r} f rest e =
     }
 
 -- as many rows as the call lists
-ordered-count : (c : Checked) → ordered c .rows ≡ length (rows-of-check c)
+pub ordered-count : (c : Checked) → ordered c .rows ≡ length (rows-of-check c)
 unfolding ordered rows-of-check
 ordered-count (refusal-at r place) = refl
 ordered-count (listed-rows rs) = refl

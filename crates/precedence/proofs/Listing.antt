@@ -29,6 +29,7 @@ use Rattle.firing.proofs.Joining.{uses-low}
 use Rattle.prune.specs.Listing.{from, record-behind, taker, kind-at, is-among}
 use Rattle.prune.proofs.Ranges.{collect-keep, from-below}
 use Rattle.prune.proofs.Filed.{fun-at, definitions-are}
+use Rattle.prune.proofs.Picking.{kind-none, kind-not, kind-is}
 use Rattle.prune.proofs.Takers.{one-zero, one-suc}
 use Rattle.prune.proofs.Linking.{number-is, by-rank, in-all, free-has, def-found, fun-found}
 use Rattle.precedence.specs.Sorts.{sort-at, late-at, sorted-row, rank-row, body-rows, def-rows, all-late}
@@ -106,20 +107,17 @@ module _ {file names recs lists : List ℕ} {k : Counts} (x : Filled file names 
 
   -- the record of a kind that took it, and one
   kind-zero : (kind r : ℕ) → taker names r ≡ 0 → record-behind (kind-at names recs kind r) ≡ []
-  unfolding kind-at
-  kind-zero kind r e = one-zero _ (rw (eq-eqb (taker names r) 0 e))
+  kind-zero kind r e = one-zero _ (sym (kind-none names recs kind r (taker names r) refl e))
 
-  kind-other : (kind r j : ℕ) → taker names r ≡ suc j → (record-kind recs j ≡ kind → ⊥) → record-behind (kind-at names recs kind r) ≡ []
-  unfolding kind-at
-  kind-other kind r j e q =
-      let z : suc j - 1 ≡ j = omega arith in
-      one-zero _ (rw (e, ne-eqb (suc j) 0 (λ d. omega arith), z, ne-eqb (record-kind recs j) kind q))
+  module _ (kind r j : ℕ) (e : taker names r ≡ suc j) where
+    kind-here : record-kind recs j ≡ record-kind recs (suc j - 1)
+    kind-here = ap (record-kind recs) (let z : j ≡ suc j - 1 = omega arith in z)
 
-  kind-same : (kind r j : ℕ) → taker names r ≡ suc j → record-kind recs j ≡ kind → record-behind (kind-at names recs kind r) ≡ j ∷ []
-  unfolding kind-at
-  kind-same kind r j e q =
-      let z : suc j - 1 ≡ j = omega arith in
-      one-suc _ j (rw (e, ne-eqb (suc j) 0 (λ d. omega arith), z, eq-eqb (record-kind recs j) kind q))
+    kind-other : (record-kind recs j ≡ kind → ⊥) → record-behind (kind-at names recs kind r) ≡ []
+    kind-other q = one-zero _ (sym (kind-not names recs kind r (suc j) (sym e) (λ d. omega arith) (record-kind recs j) kind-here q))
+
+    kind-same : record-kind recs j ≡ kind → record-behind (kind-at names recs kind r) ≡ j ∷ []
+    kind-same q = one-suc _ j (sym (kind-is names recs kind r (suc j) (sym e) (λ d. omega arith) (record-kind recs j) kind-here q))
 
   -- the sort of the name of a rank
   sort-is : (i r : ℕ) → r < k .names → sort-of ps (def i) (rank-name r) ≡ sort-option (sort-at names recs i (ranked names r))

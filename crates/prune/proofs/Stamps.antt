@@ -16,7 +16,7 @@ use Rattle.records.specs.Filing.{newest}
 use Rattle.records.proofs.Chaining.{newest-low}
 use Rattle.firing.specs.Held.{upto}
 use Rattle.firing.proofs.Numbers.{upto-elim}
-use Rattle.firing.proofs.Newest.{newest-at}
+use Rattle.firing.proofs.Newest.{newest-value}
 use Rattle.prune.specs.Listing.{most-stamps, record-behind, picked, kind-at, stamp-records, kind-records, decl-records}
 use Rattle.prune.specs.Loops.{kept-column, below-column, highest-column, stamp-column, stamp-in, Index, Kept-behind, Linked}
 use Rattle.prune.proofs.Chains.{linked-same}
@@ -36,10 +36,6 @@ module _ (f : ℕ → ℕ) (n : ℕ) where
           → keep (λ d. eqb (f d) n) (upto (suc k)) ≡ keep (λ d. eqb (f d) n) (upto (cond b (suc k) (newest f n k)))
       go true e w = refl
       go false e w = rw e w
-
-  -- the newest has it
-  newest-has : (k : ℕ) → 0 < newest f n k → f (newest f n k - 1) ≡ n
-  newest-has k l = newest-at f n k (newest f n k - 1) (omega arith) .1
 
   -- the first of them
   kept-first : (p : ℕ) → 0 < p → f (p - 1) ≡ n → keep (λ d. eqb (f d) n) (upto p) ≡ (p - 1) ∷ keep (λ d. eqb (f d) n) (upto (p - 1))
@@ -80,7 +76,7 @@ module _ {names recs : List ℕ} {f : ℕ → ℕ} {named kind : ℕ} {w : List 
       let whole : List ℕ = stamp-records names recs named f kind s in
       record {
         high = omega arith;
-        on = λ g. subst (λ (x : ℕ). f (x - 1) ≡ s) (sym q) (newest-has f s named (omega arith));
+        on = λ g. subst (λ (x : ℕ). f (x - 1) ≡ s) (sym q) (newest-value f s named (omega arith));
         going = subst (λ (l : List ℕ). Going kept-column w m whole w m l) (up-to-newest names recs kind f s named p q)
             (going-start kept-column w m whole);
       }
@@ -103,7 +99,7 @@ module _ {names recs : List ℕ} {f : ℕ → ℕ} {named kind : ℕ} {w : List 
     next-high = let a = chain-less in let b = g .high in omega arith
 
     next-on : 0 < q → f (q - 1) ≡ s
-    next-on l = subst (λ (x : ℕ). f (x - 1) ≡ s) (sym next-is) (newest-has f s (p - 1) (let a = next-is in omega arith))
+    next-on l = subst (λ (x : ℕ). f (x - 1) ≡ s) (sym next-is) (newest-value f s (p - 1) (let a = next-is in omega arith))
 
     left-is : stamp-records names recs p f kind s ≡ record-behind (kind-at names recs kind (p - 1)) ++ stamp-records names recs q f kind s
     left-is = first-rank names recs kind f s p q (omega (arith, h)) (g .on (omega (arith, h))) next-is

@@ -11,16 +11,15 @@ use Rattle.rows.specs.Rows.{rows-held}
 use Rattle.rows.proofs.Leaving.{rows-listed, slices-left}
 use Rattle.explain.specs.Call.{reasons-in-numbers, rows-told, Found-reasons}
 use Rattle.explain.specs.declared.Reasons.{Reasons}
+use Rattle.explain.proofs.Laws.{told-count}
 use Rattle.why.specs.Call.{Exact}
 use Rattle.why.specs.Demands.{Kept-promise}
 use Rattle.why.proofs.Demands.{promise}
 
 -- the number of rows is told, and the table has these rows
 rows-number : (e : Explanation) → reasons-in-numbers (why e) .rows ≡ length (rows-told e)
-unfolding reasons-in-numbers why rows-told
-rows-number (refusal-at r place) = refl
-rows-number no-position = refl
-rows-number (told given met) = refl
+unfolding reasons-in-numbers
+rows-number e = told-count e
 
 table-told : (e : Explanation) (table : List Row) → rows-told e ++ drop (length (rows-told e)) table ≡ table-after e table
 unfolding rows-told table-after
