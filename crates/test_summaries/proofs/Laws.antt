@@ -1,5 +1,5 @@
--- Laws of the tables of a file: what reading asks of new slices, and what printing asks of the filled ones.
-use Prim.Native.Nat.{ℕ, _≤_, _<_}
+-- Laws of the tables of a file: what reading asks of new slices, and what it leaves in them.
+use Prim.Native.Nat.{ℕ, _≤_}
 use native.Mathlib.Omega.{arith}
 use mathlib.Core.Path.{_≡_}
 use mathlib.Core.List.{List}
@@ -13,7 +13,6 @@ use Rattle.macros.specs.Macros.{Filled}
 use Rattle.reader.specs.declared.Reading.{Reading}
 use Rattle.reader.specs.declared.Reading.the-variants as answer
 use Rattle.reader.specs.Lines.{Tables-cleared, Reads-file, all-read}
-use Rattle.test_summaries.specs.Facts.{Printable}
 
 -- a part of a short input is short
 pub part-short : (input : List ℕ) (a e : ℕ) → e ≤ length input → length input ≤ most-bytes → length (part input a e) ≤ most-bytes
@@ -47,20 +46,3 @@ read-filled {file} {names} {refs} {rows} {recs} {lists} {k} s p = go (rw p at s)
   where
     go : Reads-file file names refs rows recs lists (answer.Read k) → Filled file names recs lists k
     go (all-read e f) = f
-
--- each record of the filled tables can be printed
-pub printable : {file names recs lists : List ℕ} {k : Counts} {i : ℕ} → Filled file names recs lists k → i < k .records
-    → Printable file names recs lists (k .names) i
-printable {i = i} f l =
-    let entries = f .recorded .entries-in i l in
-    let few-entries = f .recorded .few-entries in
-    let size = f .stocked .filing .sized i l in
-    record {
-      table = f .table;
-      record-room = f .recorded .room;
-      list-room = f .recorded .lists-room;
-      few = omega (arith, f .recorded .few);
-      entries-from = omega arith;
-      entries-to = omega arith;
-      uses-to = omega (arith, f .recorded .uses-in i l, f .recorded .few-uses);
-    }

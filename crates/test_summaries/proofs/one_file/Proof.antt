@@ -1,6 +1,6 @@
 -- `test_summaries::one_file` is safe and ends.
-use borrow.Author.Needs.{needs}
 use Rattle.test_summaries.proofs.Laws.{zeros-cleared, read-filled}
+use borrow.Author.Needs.{needs}
 use Rattle.test_summaries.proofs.one_file.Statement.{statement}
 use Rattle.test_summaries.proofs.one_file.Tie as tie
 
@@ -36,29 +36,26 @@ slice-aggregate-put-facts-2 c = search needs
 slice-aggregate-put-facts-3 : tie.Need-slice-aggregate-put-facts-3
 slice-aggregate-put-facts-3 c = search needs
 
+slice-aggregate-put-facts-4 : tie.Need-slice-aggregate-put-facts-4
+slice-aggregate-put-facts-4 c = search needs
+
+slice-aggregate-put-facts-5 : tie.Need-slice-aggregate-put-facts-5
+slice-aggregate-put-facts-5 c = search needs
+
 put-facts-requires : tie.Need-put-facts-requires
 put-facts-requires c κs =
-    let known = c .before .before .before .before in
+    let known = c .before .before .before .before .before .before in
     let read = known .before .before .before .before .before .before .before in
-    read-filled (read .read-file .ensures .reads) (known .k .given .1)
+    (read-filled (read .read-file .ensures .reads) (known .k .given .1), read .read-file .ensures .terms _ (known .k .given .1))
 
 enum-known-line : tie.Need-enum-known-line
 enum-known-line c = search needs
 
-slice-aggregate-put : tie.Need-slice-aggregate-put
-slice-aggregate-put c = search needs
+slice-aggregate-print-count : tie.Need-slice-aggregate-print-count
+slice-aggregate-print-count c = search needs
 
-put-requires : tie.Need-put-requires
-put-requires c κs = search needs
-
-put-number-requires : tie.Need-put-number-requires
-put-number-requires c κs = search needs
-
-slice-aggregate-put-2 : tie.Need-slice-aggregate-put-2
-slice-aggregate-put-2 c = search needs
-
-put-requires-2 : tie.Need-put-requires-2
-put-requires-2 c κs = search needs
+print-count-requires : tie.Need-print-count-requires
+print-count-requires c κs = search needs
 
 returns : tie.Need-returns
 returns c = search needs
@@ -80,12 +77,11 @@ one-file-spec =
     slice-aggregate-put-facts
     slice-aggregate-put-facts-2
     slice-aggregate-put-facts-3
+    slice-aggregate-put-facts-4
+    slice-aggregate-put-facts-5
     put-facts-requires
     enum-known-line
-    slice-aggregate-put
-    put-requires
-    put-number-requires
-    slice-aggregate-put-2
-    put-requires-2
+    slice-aggregate-print-count
+    print-count-requires
     returns
     returns-2)

@@ -1,8 +1,8 @@
--- `test_summaries::has_number` is safe and ends. The loop's invariant: the place is not before the first.
+-- `summary_printing::has_number` is safe and ends. The loop's invariant: the place is not before the first.
 use Prim.Native.Nat.{_-_, _≤_}
 use borrow.Author.Needs.{needs}
-use Rattle.test_summaries.proofs.has_number.Statement.{statement}
-use Rattle.test_summaries.proofs.has_number.Tie as tie
+use Rattle.summary_printing.proofs.has_number.Statement.{statement}
+use Rattle.summary_printing.proofs.has_number.Tie as tie
 
 abbrev Inv-loop : tie.InvT-loop
 Inv-loop lists a e n i₀ i = a ≤ i
