@@ -1,8 +1,10 @@
 // Document 01's program: reads a file from standard input and prints what a call comes to, the kept records of each ask or, by a
-// word, document 02's further calls; or the refusal. A refusal is said in words on standard error too.
+// word, document 02's further calls and the summaries of the facts; or the refusal. A refusal is said in words on standard
+// error too.
 mod errors;
 mod list;
 mod order;
+mod summaries;
 mod swept;
 mod why;
 
@@ -14,12 +16,13 @@ ghost use Prim.Native.Nat.{_≤_};
 ghost use lib.ListN.{length};
 ghost use Rattle.factfilter.specs.Input.{bytes-read};
 
-// A call: the lists, the reasons at a position, the lists by the second engine, or the check of definitions.
+// A call: the lists, the reasons at a position, the lists by the second engine, the check of definitions, or the summaries.
 enum Call {
     List,
     Why(usize),
     Sweep,
     Order,
+    Summaries,
 }
 
 // What the words after the program's name ask for: a call; or there is none, for want of a position or as no word says it.
@@ -96,6 +99,9 @@ fn ask_word(word: &[u8], count: usize) -> Command {
     if text::same_text(word, 0, end, b"order") {
         return Command::Call(Call::Order);
     }
+    if text::same_text(word, 0, end, b"summaries") {
+        return Command::Call(Call::Summaries);
+    }
     Command::Unknown
 }
 
@@ -119,6 +125,7 @@ fn run(file: &[u8], c: Call)
         Call::Why(position) => why::run(file, position),
         Call::Sweep => swept::run(file),
         Call::Order => order::run(file),
+        Call::Summaries => summaries::run(file),
     }
 }
 
@@ -145,7 +152,7 @@ fn main() {
         Command::Unknown => {
             io::write_all(
                 STDERR_FILENO,
-                b"there is no such word; there are list, why POSITION, sweep and order\n",
+                b"there is no such word; there are list, why POSITION, sweep, order and summaries\n",
             );
         }
     }

@@ -9,7 +9,8 @@ use Rattle.macros.specs.Macros.{Filled}
 use Rattle.reader.specs.Lines.{Terms-stand}
 use Rattle.summary_printing.specs.Facts.{Listed, Printable}
 
-module _ {file names recs lists : List ℕ} {k : Counts} {i : ℕ} (f : Filled file names recs lists k) (l : i < k .records) where
+module _ {file names recs lists : List ℕ} {k : Counts} {i : ℕ}
+    (f : Filled file names recs lists k) (l : i < k .records) where
   -- the lists of a record can be printed
   listed : Listed file names recs lists (k .names) i
   listed =
@@ -27,7 +28,8 @@ module _ {file names recs lists : List ℕ} {k : Counts} {i : ℕ} (f : Filled f
       }
 
   -- so can a fact, with its name and its term
-  pub printable : {refs rows : List ℕ} → Terms-stand refs rows recs k → record-kind recs i ≡ assume-kind → Printable file names refs rows recs lists k i
+  pub printable : {refs rows : List ℕ} → Terms-stand refs rows recs k → record-kind recs i ≡ assume-kind
+      → Printable file names refs rows recs lists k i
   printable s e = record {
     headed = record {
       record-room = f .recorded .room;
