@@ -42,9 +42,18 @@ struct Example {
     text: String,
 }
 
+/// Summaries as the program prints them, without the name and the rule of each fact and without their count.
+fn unruled(text: &str) -> String {
+    let fact = |line: &str| {
+        let fields: Vec<&str> = line.splitn(5, ',').collect();
+        format!("{},{},{}\n", fields[0], fields[1], fields[4])
+    };
+    text.lines().filter(|line| line.starts_with("fact,")).map(fact).collect()
+}
+
 /// The files of the page: blocks marked `file`, each with blocks marked `answer`, `answer FIRST-LINE`, `summaries` or by a
 /// command after it, and tables headed `file`, `answer` and `why`, in which each piece of code is a line. A command `why` has
-/// `--rows` behind it; without, a block is what the script alone prints.
+/// `--rows` behind it; without, a block is what the script alone prints. Summaries are taken [`unruled`].
 fn examples(page: &str) -> Vec<Example> {
     let mut examples = Vec::new();
     let mut file = None::<String>;
@@ -52,7 +61,7 @@ fn examples(page: &str) -> Vec<Example> {
     let mut lines = page.lines().enumerate().map(|(index, line)| (index + 1, line));
     while let Some((at, line)) = lines.next() {
         if let Some(mark) = line.strip_prefix("```") {
-            let text: String = lines
+            let mut text: String = lines
                 .by_ref()
                 .map(|(_, line)| line)
                 .take_while(|line| *line != "```")
@@ -66,7 +75,10 @@ fn examples(page: &str) -> Vec<Example> {
                     continue;
                 }
                 "answer" => (Shown::Answer, first),
-                "summaries" => (Shown::Summaries, None),
+                "summaries" => {
+                    text = unruled(&text);
+                    (Shown::Summaries, None)
+                }
                 "why" if first.is_some_and(|words| words.ends_with("--rows")) => {
                     (Shown::Printed(parsed(command)), None)
                 }
