@@ -114,20 +114,36 @@ returns-9 : tie.Need-returns-9
 returns-9 c = search needs
 
 returns-10 : tie.Need-returns-10
-returns-10 c = (
-  refl,
-  refl,
-  record {
-    file = words-within _ _ _ _ (c .before .before .before .before .before .before .before .before .before .before .before .before .before .before .before .before .before .before .before .before .before .before .before .before .before .before .before .before .before .before .before .before .before .length .given .1) (c .before .before .before .before .before .before .before .before .before .before .before .before .before .before .before .before .before .before .before .before .before .before .before .before .before .before .before .before .before .before .before .before .before .before .before .size-at .ensures);
-    work-0 = words-within _ _ _ _ (c .before .before .before .before .before .before .before .before .before .before .before .before .before .before .before .before .before .before .before .before .before .before .before .before .before .before .before .before .before .n0 .given .1) (c .before .before .before .before .before .before .before .before .before .before .before .before .before .before .before .before .before .before .before .before .before .before .before .before .before .before .before .before .before .before .before .size-at2 .ensures);
-    work-1 = words-within _ _ _ _ (c .before .before .before .before .before .before .before .before .before .before .before .before .before .before .before .before .before .before .before .before .before .before .before .before .before .n1 .given .1) (c .before .before .before .before .before .before .before .before .before .before .before .before .before .before .before .before .before .before .before .before .before .before .before .before .before .before .before .size-at3 .ensures);
-    work-2 = words-within _ _ _ _ (c .before .before .before .before .before .before .before .before .before .before .before .before .before .before .before .before .before .before .before .before .before .n2 .given .1) (c .before .before .before .before .before .before .before .before .before .before .before .before .before .before .before .before .before .before .before .before .before .before .before .size-at4 .ensures);
-    work-3 = words-within _ _ _ _ (c .before .before .before .before .before .before .before .before .before .before .before .before .before .before .before .before .before .n3 .given .1) (c .before .before .before .before .before .before .before .before .before .before .before .before .before .before .before .before .before .before .before .size-at5 .ensures);
-    work-4 = words-within _ _ _ _ (c .before .before .before .before .before .before .before .before .before .before .before .before .before .n4 .given .1) (c .before .before .before .before .before .before .before .before .before .before .before .before .before .before .before .size-at6 .ensures);
-    work-5 = words-within _ _ _ _ (c .before .before .before .before .before .before .before .before .before .n5 .given .1) (c .before .before .before .before .before .before .before .before .before .before .before .size-at7 .ensures);
-    result = words-within _ _ _ _ (c .before .before .before .before .before .room .given .1) (c .before .before .before .before .before .before .before .size-at8 .ensures);
-  },
-)
+returns-10 c =
+    let room = c .before .before .before .before .before in
+    let size-at8 = room .before .before in
+    let n5 = size-at8 .before .before in
+    let size-at7 = n5 .before .before in
+    let n4 = size-at7 .before .before in
+    let size-at6 = n4 .before .before in
+    let n3 = size-at6 .before .before in
+    let size-at5 = n3 .before .before in
+    let n2 = size-at5 .before .before in
+    let size-at4 = n2 .before .before in
+    let n1 = size-at4 .before .before in
+    let size-at3 = n1 .before .before in
+    let n0 = size-at3 .before .before in
+    let size-at2 = n0 .before .before in
+    let length = size-at2 .before .before in
+    let size-at = length .before .before in (
+      refl,
+      refl,
+      record {
+        file = words-within _ _ _ _ (length .length .given .1) (size-at .size-at .ensures);
+        work-0 = words-within _ _ _ _ (n0 .n0 .given .1) (size-at2 .size-at2 .ensures);
+        work-1 = words-within _ _ _ _ (n1 .n1 .given .1) (size-at3 .size-at3 .ensures);
+        work-2 = words-within _ _ _ _ (n2 .n2 .given .1) (size-at4 .size-at4 .ensures);
+        work-3 = words-within _ _ _ _ (n3 .n3 .given .1) (size-at5 .size-at5 .ensures);
+        work-4 = words-within _ _ _ _ (n4 .n4 .given .1) (size-at6 .size-at6 .ensures);
+        work-5 = words-within _ _ _ _ (n5 .n5 .given .1) (size-at7 .size-at7 .ensures);
+        result = words-within _ _ _ _ (room .room .given .1) (size-at8 .size-at8 .ensures);
+      },
+    )
 
 pub sizes-at-spec : {M : Type 1} → statement M
 sizes-at-spec =

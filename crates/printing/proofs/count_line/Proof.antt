@@ -29,8 +29,12 @@ same-length c = search needs
 returns : tie.Need-returns
 unfolding bytes
 returns c =
-    let number = puts-then (puts-then (c .before .before .before .before .before .before .before .before .before .before .before .before .before .before .before .before .put .ensures) (c .before .before .before .before .before .before .before .before .before .before .before .put2 .ensures)) (c .before .before .before .before .before .before .before .put-count .ensures .0) in
-    held (puts-then number (c .before .before .put3 .ensures)) (count-parts _ _)
+    let put3 = c .before .before in
+    let put-count = put3 .before .before .before .before .before in
+    let put2 = put-count .before .before .before .before in
+    let put = put2 .before .before .before .before .before in
+    let number = puts-then (puts-then (put .put .ensures) (put2 .put2 .ensures)) (put-count .put-count .ensures .0) in
+    held (puts-then number (put3 .put3 .ensures)) (count-parts _ _)
 
 pub count-line-spec : {M : Type 1} → statement M
 count-line-spec =

@@ -35,9 +35,14 @@ same-length c = search needs
 returns : tie.Need-returns
 unfolding bytes
 returns c =
-    let kept = puts-then (c .before .before .before .before .before .before .before .before .before .before .before .before .before .before .before .before .before .before .before .before .put .ensures) (c .before .before .before .before .before .before .before .before .before .before .before .before .before .before .before .before .put-number .ensures .0) in
-    let passes = puts-then (puts-then kept (c .before .before .before .before .before .before .before .before .before .before .before .put2 .ensures)) (c .before .before .before .before .before .before .before .put-number2 .ensures .0) in
-    held (puts-then passes (c .before .before .put3 .ensures)) (pass-parts _ _)
+    let put3 = c .before .before in
+    let put-number2 = put3 .before .before .before .before .before in
+    let put2 = put-number2 .before .before .before .before in
+    let put-number = put2 .before .before .before .before .before in
+    let put = put-number .before .before .before .before in
+    let kept = puts-then (put .put .ensures) (put-number .put-number .ensures .0) in
+    let passes = puts-then (puts-then kept (put2 .put2 .ensures)) (put-number2 .put-number2 .ensures .0) in
+    held (puts-then passes (put3 .put3 .ensures)) (pass-parts _ _)
 
 pub pass-line-spec : {M : Type 1} → statement M
 pass-line-spec =

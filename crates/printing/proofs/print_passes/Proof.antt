@@ -43,10 +43,17 @@ array-read-count : tie.Need-array-read-count Inv-loop μ-loop
 array-read-count c = omega arith
 
 cast-count : tie.Need-cast-count Inv-loop μ-loop
-cast-count c = omega (arith, c .before .before .before .before .before .before .before .before .before .before .before .pre .3, sum-within (c .before .before .before .before .before .before .before .before .before .before .before .args .t2) (c .before .before .loop .p) _ (c .before .before .loop .inv .1))
+cast-count c =
+    let loop = c .before .before in
+    let entry = loop .before .before .before .before .before .before .before .before .before in
+    omega (arith, entry .pre .3, sum-within (entry .args .t2) (loop .loop .p) _ (loop .loop .inv .1))
 
 print-kept-requires : tie.Need-print-kept-requires Inv-loop μ-loop
-print-kept-requires c κs = (c .before .before .before .before .before .before .before .line-starts .ensures .0, omega (arith, c .before .before .before .before .before .before .before .before .before .before .before .before .before .pre .3, sum-within (c .before .before .before .before .before .before .before .before .before .before .before .before .before .args .t2) (c .before .before .before .before .loop .p) _ (c .before .before .before .before .loop .inv .1)), omega (arith, c .before .before .before .before .before .before .before .before .before .before .before .before .before .pre .2, c .before .before .before .before .loop .inv .0))
+print-kept-requires c κs =
+    let loop = c .before .before .before .before in
+    let line-starts = loop .before .before .before in
+    let entry = line-starts .before .before .before .before .before .before in
+    (line-starts .line-starts .ensures .0, omega (arith, entry .pre .3, sum-within (entry .args .t2) (loop .loop .p) _ (loop .loop .inv .1)), omega (arith, entry .pre .2, loop .loop .inv .0))
 
 same-length-3 : tie.Need-same-length-3 Inv-loop μ-loop
 same-length-3 c = search needs
@@ -82,7 +89,10 @@ returns-3 : tie.Need-returns-3 Inv-loop μ-loop
 returns-3 c = tt
 
 add-from : tie.Need-add-from Inv-loop μ-loop
-add-from c = omega (arith, c .before .before .before .before .before .before .before .before .before .before .before .before .before .before .before .before .before .before .before .pre .3, sum-within (c .before .before .before .before .before .before .before .before .before .before .before .before .before .before .before .before .before .before .before .args .t2) (c .before .before .before .before .before .before .before .before .before .before .loop .p) _ (c .before .before .before .before .before .before .before .before .before .before .loop .inv .1))
+add-from c =
+    let loop = c .before .before .before .before .before .before .before .before .before .before in
+    let entry = loop .before .before .before .before .before .before .before .before .before in
+    omega (arith, entry .pre .3, sum-within (entry .args .t2) (loop .loop .p) _ (loop .loop .inv .1))
 
 add-p : tie.Need-add-p Inv-loop μ-loop
 add-p c = omega arith
@@ -91,7 +101,10 @@ loop-less : tie.Need-loop-less Inv-loop μ-loop
 loop-less c = omega arith
 
 loop-again : tie.Need-loop-again Inv-loop μ-loop
-loop-again c = (search needs, sum-next (c .before .before .before .before .before .before .before .before .before .before .before .before .before .before .before .before .before .before .before .args .t2) (c .before .before .before .before .before .before .before .before .before .before .loop .p) _ (c .before .before .before .before .before .before .before .before .before .before .loop .inv .1), omega arith)
+loop-again c =
+    let loop = c .before .before .before .before .before .before .before .before .before .before in
+    let entry = loop .before .before .before .before .before .before .before .before .before in
+    (search needs, sum-next (entry .args .t2) (loop .loop .p) _ (loop .loop .inv .1), omega arith)
 
 same-length-7 : tie.Need-same-length-7 Inv-loop μ-loop
 same-length-7 c = search needs

@@ -22,7 +22,10 @@ loop-holds c = refl
 
 table-line-requires : tie.Need-table-line-requires Inv-loop μ-loop
 table-line-requires c κs =
-    (c .before .before .before .before .before .before .line-starts .ensures .0, c .before .before .before .before .before .before .before .before .before .before .before .before .before .pre .0, omega (arith, c .before .before .before .before .before .before .before .before .before .before .before .before .before .pre .1), omega (arith, c .before .before .before .before .before .before .before .before .before .before .before .before .before .pre .3, c .before .before .before .loop .inv))
+    let loop = c .before .before .before in
+    let line-starts = loop .before .before .before in
+    let entry = line-starts .before .before .before .before .before .before .before in
+    (line-starts .line-starts .ensures .0, entry .pre .0, omega (arith, entry .pre .1), omega (arith, entry .pre .3, loop .loop .inv))
 
 slice-reshare-prefix-write-all : tie.Need-slice-reshare-prefix-write-all Inv-loop μ-loop
 slice-reshare-prefix-write-all c = c .before .before .table-line .ensures .inside

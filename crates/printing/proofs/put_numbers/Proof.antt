@@ -39,10 +39,16 @@ same-length c = search needs
 returns : tie.Need-returns
 unfolding bytes
 returns c =
-    let of-line = puts-then (c .before .before .before .before .before .before .before .before .before .before .before .before .before .before .before .before .before .before .before .before .before .before .before .before .put .ensures) (c .before .before .before .before .before .before .before .before .before .before .before .before .before .before .before .before .before .before .before .before .put-number .ensures .0) in
-    let number = puts-then (puts-then of-line (c .before .before .before .before .before .before .before .before .before .before .before .before .before .before .before .put2 .ensures)) (c .before .before .before .before .before .before .before .before .before .before .before .put-number2 .ensures .0) in
-    let text = puts-then (puts-then number (c .before .before .before .before .before .before .put3 .ensures)) (c .before .before .put-number3 .ensures .0) in
-    (puts-same text (numbers-parts _), omega (arith, c .before .before .before .before .before .before .before .before .before .before .before .before .before .before .before .before .before .before .before .before .before .before .before .before .put .ensures .ends, c .before .before .before .before .before .before .before .before .before .before .before .before .before .before .before .before .before .before .before .before .put-number .ensures .1, c .before .before .before .before .before .before .before .before .before .before .before .before .before .before .before .put2 .ensures .ends, c .before .before .before .before .before .before .before .before .before .before .before .put-number2 .ensures .1, c .before .before .before .before .before .before .put3 .ensures .ends))
+    let put-number3 = c .before .before in
+    let put3 = put-number3 .before .before .before .before in
+    let put-number2 = put3 .before .before .before .before .before in
+    let put2 = put-number2 .before .before .before .before in
+    let put-number = put2 .before .before .before .before .before in
+    let put = put-number .before .before .before .before in
+    let of-line = puts-then (put .put .ensures) (put-number .put-number .ensures .0) in
+    let number = puts-then (puts-then of-line (put2 .put2 .ensures)) (put-number2 .put-number2 .ensures .0) in
+    let text = puts-then (puts-then number (put3 .put3 .ensures)) (put-number3 .put-number3 .ensures .0) in
+    (puts-same text (numbers-parts _), omega (arith, put .put .ensures .ends, put-number .put-number .ensures .1, put2 .put2 .ensures .ends, put-number2 .put-number2 .ensures .1, put3 .put3 .ensures .ends))
 
 pub put-numbers-spec : {M : Type 1} → statement M
 put-numbers-spec =

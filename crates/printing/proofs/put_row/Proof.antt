@@ -36,9 +36,16 @@ same-length c = search needs
 returns : tie.Need-returns
 unfolding bytes
 returns c =
-    let of = puts-then (puts-then (c .before .before .before .before .before .before .before .before .before .before .before .before .before .before .before .before .before .before .before .before .put-numbers .ensures .0) (c .before .before .before .before .before .before .before .before .before .before .before .before .before .before .before .put .ensures)) (c .before .before .before .before .before .before .before .before .before .before .before .put2 .ensures) in
-    let text = puts-then (puts-then of (c .before .before .before .before .before .before .put3 .ensures)) (c .before .before .put4 .ensures) in
-    (puts-same text (row-parts _ _ _ _ (c .before .before .before .before .before .before .before .before .before .before .before .before .before .before .before .before .before .before .before .before .before .before .name-on .ensures .0)), omega (arith, c .before .before .before .before .before .before .before .before .before .before .before .before .before .before .before .before .before .before .before .before .before .before .before .before .before .before .before .pre .1, c .before .before .before .before .before .before .before .before .before .before .before .before .before .before .before .before .before .before .before .before .put-numbers .ensures .1, c .before .before .before .before .before .before .before .before .before .before .before .before .before .before .before .put .ensures .ends, c .before .before .before .before .before .before .before .before .before .before .before .before .before .before .before .before .before .before .before .before .before .before .name-on .ensures .1, c .before .before .before .before .before .before .before .before .before .before .before .put2 .ensures .ends, c .before .before .before .before .before .before .put3 .ensures .ends, c .before .before .put4 .ensures .ends))
+    let put4 = c .before .before in
+    let put3 = put4 .before .before .before .before in
+    let put2 = put3 .before .before .before .before .before in
+    let put = put2 .before .before .before .before in
+    let put-numbers = put .before .before .before .before .before in
+    let name-on = put-numbers .before .before in
+    let entry = name-on .before .before .before .before .before in
+    let of = puts-then (puts-then (put-numbers .put-numbers .ensures .0) (put .put .ensures)) (put2 .put2 .ensures) in
+    let text = puts-then (puts-then of (put3 .put3 .ensures)) (put4 .put4 .ensures) in
+    (puts-same text (row-parts _ _ _ _ (name-on .name-on .ensures .0)), omega (arith, entry .pre .1, put-numbers .put-numbers .ensures .1, put .put .ensures .ends, name-on .name-on .ensures .1, put2 .put2 .ensures .ends, put3 .put3 .ensures .ends, put4 .put4 .ensures .ends))
 
 pub put-row-spec : {M : Type 1} → statement M
 put-row-spec =

@@ -32,8 +32,13 @@ same-length c = search needs
 returns : tie.Need-returns
 unfolding bytes
 returns c =
-    let item = puts-then (puts-then (c .before .before .before .before .before .before .before .before .before .before .before .before .before .before .before .before .put-row .ensures .0) (c .before .before .before .before .before .before .before .before .before .before .before .put .ensures)) (c .before .before .before .before .before .before .before .put2 .ensures) in
-    held (puts-then item (c .before .before .put3 .ensures)) (reason-row-parts _ _ _ _ (c .before .before .before .before .before .before .before .before .before .before .before .before .before .before .before .before .before .before .item-on .ensures .0))
+    let put3 = c .before .before in
+    let put2 = put3 .before .before .before .before .before in
+    let put = put2 .before .before .before .before in
+    let put-row = put .before .before .before .before .before in
+    let item-on = put-row .before .before in
+    let item = puts-then (puts-then (put-row .put-row .ensures .0) (put .put .ensures)) (put2 .put2 .ensures) in
+    held (puts-then item (put3 .put3 .ensures)) (reason-row-parts _ _ _ _ (item-on .item-on .ensures .0))
 
 pub row-line-spec : {M : Type 1} → statement M
 row-line-spec =

@@ -75,7 +75,10 @@ slice-aggregate-print-sweep : tie.Need-slice-aggregate-print-sweep
 slice-aggregate-print-sweep c = search needs
 
 print-sweep-requires : tie.Need-print-sweep-requires
-print-sweep-requires c κs = (c .before .before .before .before .before .before .before .before .before .before .before .before .before .before .before .before .before .before .before .before .before .before .before .before .before .before .before .before .before .before .before .before .before .before .before .before .before .before .pre .0, c .before .before .before .before .before .before .before .before .call-sweep .ensures)
+print-sweep-requires c κs =
+    let call-sweep = c .before .before .before .before .before .before .before .before in
+    let entry = call-sweep .before .before .before .before .before .before .before .before .before .before .before .before .before .before .before .before .before .before .before .before .before .before .before .before .before .before .before .before .before .before in
+    (entry .pre .0, call-sweep .call-sweep .ensures)
 
 sum-counts-requires : tie.Need-sum-counts-requires
 sum-counts-requires c κs = omega (arith, c .before .before .before .before .before .before .before .before .before .before .call-sweep .ensures)

@@ -39,7 +39,11 @@ same-length : tie.Need-same-length
 same-length c = search needs
 
 returns : tie.Need-returns
-returns c = orders _ _ _ _ _ _ (c .before .before .before .before .before .before .before .before .before .before .before .before .check-order .ensures) refl (c .before .before .before .before .before .before .before .before .before .before .before .before .before .before .before .before .before .before .before .before .before .pre) (c .before .before .copy .ensures)
+returns c =
+    let copy = c .before .before in
+    let check-order = copy .before .before .before .before .before .before .before .before .before .before in
+    let entry = check-order .before .before .before .before .before .before .before .before .before in
+    orders _ _ _ _ _ _ (check-order .check-order .ensures) refl (entry .pre) (copy .copy .ensures)
 
 pub check-file-spec : {M : Type 1} → statement M
 check-file-spec =

@@ -39,7 +39,11 @@ same-length : tie.Need-same-length
 same-length c = search needs
 
 returns : tie.Need-returns
-returns c = explains _ _ _ _ _ _ _ (c .before .before .before .before .before .before .before .before .before .before .before .before .explain .ensures) refl (c .before .before .before .before .before .before .before .before .before .before .before .before .before .before .before .before .before .before .before .before .before .pre) (c .before .before .copy .ensures)
+returns c =
+    let copy = c .before .before in
+    let explain = copy .before .before .before .before .before .before .before .before .before .before in
+    let entry = explain .before .before .before .before .before .before .before .before .before in
+    explains _ _ _ _ _ _ _ (explain .explain .ensures) refl (entry .pre) (copy .copy .ensures)
 
 pub explain-file-spec : {M : Type 1} → statement M
 explain-file-spec =
