@@ -18,9 +18,9 @@ extern "C" {
 
 /* The version; the archive has to be of the same one. While the first number is 0, a change of the second may change the
  * functions, the answer or the file. */
-#define WIMPLEJADE_VERSION "0.6.0"
+#define WIMPLEJADE_VERSION "0.7.0"
 #define WIMPLEJADE_VERSION_MAJOR 0
-#define WIMPLEJADE_VERSION_MINOR 6
+#define WIMPLEJADE_VERSION_MINOR 7
 #define WIMPLEJADE_VERSION_PATCH 0
 
 /* The words that each working slice must have at least. */
@@ -47,7 +47,7 @@ extern "C" {
 #define WIMPLEJADE_MOST_BYTES 65535
 
 /* The stack, in bytes, that is enough for every call: 2 MB. A call takes 256 bytes for each level of the deepest term, of which
- * there can be 4,096: `make stack` measures each function, wimplejade_filter at 1,050,176 bytes. */
+ * there can be 4,096: `make stack` measures each function, 1,050,576 bytes at most, by wimplejade_filter. */
 #define WIMPLEJADE_STACK_BYTES (2u << 20)
 
 /* Why a call is refused; the comment says what `place` is then. A line is counted from 1. A line that passes several
@@ -114,8 +114,8 @@ struct wimplejade_answer {
  *
  * Accepted, `result` holds line numbers from its start, as many as the sum of `kept`, and past them what it held before.
  *
- * A file that looks like an export, with one ask line, takes 10 to 300 microseconds, the worst file known 0.22 seconds; no
- * bound is proved (docs/PERFORMANCE.md).
+ * A file that looks like an export, with one ask line, takes 10 to 350 microseconds, the worst file known 0.2 to 0.5 seconds;
+ * no bound is proved (docs/PERFORMANCE.md).
  */
 struct wimplejade_answer wimplejade_filter(const uint8_t *file, size_t file_bytes,
                                            uint32_t *working0, size_t working0_words,

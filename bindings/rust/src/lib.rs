@@ -113,11 +113,12 @@
 //!
 //! # Stack and time
 //!
-//! A call takes 256 bytes of stack for each level of the deepest term, of which there can be 4,096: 1,050,176 bytes were
-//! measured. [`STACK_BYTES`], 2 MB, is enough for every file; a thread that Rust starts has as much unless it is told
+//! A call takes 256 bytes of stack for each level of the deepest term, of which there can be 4,096: 1,050,576 bytes were
+//! measured at most. [`STACK_BYTES`], 2 MB, is enough for every file; a thread that Rust starts has as much unless it is told
 //! otherwise. A thread with less may end the process, as every overflow of the stack does.
 //!
-//! A file that looks like an export, with one ask line, takes 10 to 300 microseconds, the worst file known 0.22 seconds.
+//! A file that looks like an export, with one ask line, takes 10 to 350 microseconds, the worst file known 0.2 to 0.5
+//! seconds.
 
 #![deny(missing_docs)]
 
