@@ -90,10 +90,10 @@ fn pass(names: &[u32], recs: &[u32], lists: &[u32], run: &mut [u32], k: Counts, 
         ≡ pass-all (held-of (now (names .entry)) (now (recs .entry)) (now (lists .entry)) k a)
         (sweeping (now (run .entry)) n b)) ⌝ }
 {
-    let count = k.records;
+    let end = k.records;
     let mut added = false;
     let mut next = 0;
-    while next < count {
+    while next < end {
         let i = next;
         next += 1;
         if !adds(recs, lists, run, a, i) {

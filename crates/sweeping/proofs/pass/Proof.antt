@@ -11,10 +11,10 @@ use Rattle.sweeping.proofs.pass.Statement.{statement}
 use Rattle.sweeping.proofs.pass.Tie as tie
 
 abbrev Inv-loop : tie.InvT-loop
-Inv-loop names recs lists run₀ k a count added₀ next₀ run added next = Passing (held-of names recs lists k a) run₀ count next run added
+Inv-loop names recs lists run₀ k a end added₀ next₀ run added next = Passing (held-of names recs lists k a) run₀ end next run added
 
 abbrev μ-loop : tie.MeasureT-loop
-μ-loop names recs lists run₀ k a count added₀ next₀ run added next = count - next
+μ-loop names recs lists run₀ k a end added₀ next₀ run added next = end - next
 
 loop-holds : tie.Need-loop-holds Inv-loop μ-loop
 loop-holds c = pass-start
