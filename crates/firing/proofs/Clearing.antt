@@ -1,4 +1,4 @@
--- The columns set to zero; how many records are not reached, and names not met, at most.
+-- The columns set to zero: nothing is met or reached; how many records are not reached, and names not met, at most.
 use Prim.Native.Nat.{ℕ, zero, suc, _+_, _-_, _≤_, _<_}
 use native.Mathlib.Omega.{arith}
 use native.Mathlib.Numerals.{add-one}
@@ -6,11 +6,14 @@ use mathlib.Core.Path.{_≡_, refl, _∙_, subst}
 use mathlib.Core.Bool.{not}
 use mathlib.Core.Logic.{_⊎_, ⊎-elim}
 use mathlib.Core.List.{List}
+use lib.Dec.{T}
 use lib.ListN.{length, getD, set, length-set}
 use lib.Seq.{getD-set-same, getD-set-other}
+use borrow.Author.Tests.{le-ltb}
 use Rattle.model.specs.Reading.{most-records}
+use Rattle.model.proofs.ListLaws.{false-T}
 use Rattle.terms.proofs.Laws.{equal}
-use Rattle.firing.specs.Met.{is-met, is-reached, unreached, unmet, zeroed-to}
+use Rattle.firing.specs.Met.{reached-column, is-met, is-reached, unreached, unmet, zeroed-to}
 use Rattle.firing.proofs.Numbers.{count-upto}
 
 pub clear-start : (w : List ℕ) → w ≡ zeroed-to 0 w
@@ -50,3 +53,12 @@ few-unreached w = count-upto (λ i. not (is-reached w i)) most-records
 pub few-unmet : (n : ℕ) (w : List ℕ) → unmet n w ≤ n
 unfolding unmet
 few-unmet n w = count-upto (λ m. not (is-met w m)) n
+
+-- a word that is zero marks nothing
+pub none-met : (w : List ℕ) (n : ℕ) → _≡_ {A = ℕ} (getD w n 0) 0 → T (not (is-met w n))
+unfolding is-met
+none-met w n e = false-T (le-ltb 0 (getD w n 0) (omega arith))
+
+pub none-reached : (w : List ℕ) (i : ℕ) → _≡_ {A = ℕ} (getD w (reached-column + i) 0) 0 → T (not (is-reached w i))
+unfolding is-reached
+none-reached w i e = false-T (le-ltb 0 (getD w (reached-column + i) 0) (omega arith))

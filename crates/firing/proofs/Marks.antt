@@ -79,7 +79,7 @@ marks-out r w (n ∷ ns) k o =
     marks-out r (mark r w n) ns k (λ m. o (List·Memᴰ·tail m)) ∙ mark-other r w n k (λ e. o (List·Memᴰ·head e))
 
 -- a name of the list that was not met is met in round r
-marks-in : (r : ℕ) (w : List ℕ) {ns : List ℕ} {k : ℕ} → 0 < r → k < length w → getD w k 0 ≡ 0 → List·Memᴰ k ns → getD (marks r w ns) k 0 ≡ r
+pub marks-in : (r : ℕ) (w : List ℕ) {ns : List ℕ} {k : ℕ} → 0 < r → k < length w → getD w k 0 ≡ 0 → List·Memᴰ k ns → getD (marks r w ns) k 0 ≡ r
 unfolding marks fold-left
 marks-in r w {k} p l e (List·Memᴰ·head {x = n} {xs} s) =
     let z : getD (mark r w n) k 0 ≡ r = rw (← s, mark-zero r w k l e) in

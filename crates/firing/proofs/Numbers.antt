@@ -24,6 +24,10 @@ unfolding upto
 upto-elim zero m = absurd (List·Memᴰ·not-nil m)
 upto-elim (suc n) {i} m = ⊎-elim (λ e. omega (arith, e)) (λ k. let l = upto-elim n k in omega (arith, l)) (List·Memᴰ·cases-cons m)
 
+pub not-not : (b : Bool) → T b → T (not (not b))
+not-not true t = tt
+not-not false t = absurd t
+
 -- ---- sets of names
 
 module _ (name : ℕ → Name) (test : ℕ → Bool) where

@@ -1,4 +1,4 @@
--- What a run asks of the tables, on numbers: names, records, filed trigger entries.
+-- What an engine asks of the tables, on numbers: names, records, filed trigger entries.
 use Prim.Native.Nat.{ℕ, zero, suc, _≤_, _<_}
 use mathlib.Core.Path.{_≡_}
 use mathlib.Core.Bool.{Bool, _&&_}

@@ -4,7 +4,7 @@ use native.Mathlib.Omega.{arith}
 use mathlib.Core.Path.{_≡_, refl, sym, _∙_, ap}
 use mathlib.Core.Bool.{Bool, true, false, cond}
 use mathlib.Core.List.{List, [], _∷_, _++_, map, List·Memᴰ, List·Memᴰ·head, List·Memᴰ·tail, Memᴰ·cast}
-use lib.Dec.{T, eqb, ltb, not-T, eqb→eq, ltb→lt}
+use lib.Dec.{T, eqb, eqb→eq}
 use lib.ListN.{length, getD}
 use borrow.Author.Tests.{eq-eqb}
 use Rattle.model.specs.Lists.{keep, part}
@@ -16,8 +16,8 @@ use Rattle.model.proofs.PartLaws.{part-cons, part-nil, part-elim}
 use Rattle.records.specs.Columns.{uses-start, uses-end}
 use Rattle.records.specs.States.{uses-at}
 use Rattle.records.specs.Filing.{Records}
-use Rattle.firing.specs.Met.{mark, marks, is-met}
-use Rattle.firing.proofs.Marks.{mark-length, marks-nil, marks-cons, marks-length, marks-old, marks-out, met-in, new-intro}
+use Rattle.firing.specs.Met.{mark, marks}
+use Rattle.firing.proofs.Marks.{mark-length, marks-nil, marks-cons, marks-length, marks-old, marks-out, marks-in}
 use Rattle.prune.specs.Listing.{from, is-goal, goal-records, is-among, stamped}
 use Rattle.prune.specs.Loops.{kept-column, stamp-column, stamp-words, noted, Notes}
 use Rattle.prune.proofs.Picking.{kept-skip, kept-take, kept-end}
@@ -136,12 +136,6 @@ has-intro {n} m = any-intro (λ m. eqb m n) m (true-T (eq-eqb n n refl))
 has-not : (n : ℕ) (l : List ℕ) → is-among n l ≡ false → List·Memᴰ n l → ⊥
 has-not n l e m = absurd (rw e at (has-intro m))
 
--- a word without a mark gets that of its list
-first-noted : (s : ℕ) (w l : List ℕ) (n : ℕ) → 0 < s → n < length w → getD w n 0 ≡ 0 → List·Memᴰ n l → getD (marks s w l) n 0 ≡ s
-unfolding is-met
-first-noted s w l n p h z m =
-    new-intro s w l n p h (met-in s w l p h m) (not-T (ltb 0 (getD w n 0)) (λ t. let x = ltb→lt 0 (getD w n 0) t in omega arith))
-
 -- the marks in a column that had none are the places of the lists
 pub noted-stamped : (s : ℕ) (w : List ℕ) (ls : List (List ℕ)) (n : ℕ) → 0 < s → n < length w → getD w n 0 ≡ 0
     → getD (noted s w ls) n 0 ≡ stamped s ls n
@@ -153,7 +147,7 @@ noted-stamped s w (l ∷ ls) n p h z = go (is-among n l) refl (noted-stamped (s 
         → getD (noted (s + 1) (marks s w l) ls) n 0 ≡ cond b s (stamped (s + 1) ls n)
     go true e ih =
         let m = has-elim n l (true-T e) in
-        let f = first-noted s w l n p h z m in
+        let f = marks-in s w p h z m in
         noted-old (s + 1) (marks s w l) ls n (omega arith) ∙ f
     go false e ih = ih (marks-out s w l n (λ m. has-not n l e m) ∙ z)
 

@@ -15,7 +15,7 @@ use Rattle.firing.specs.Held.{Held, Fits, upto}
 use Rattle.firing.specs.Met.{reached-column, work-column, run-end, is-met, is-reached, marks, unreached, unmet}
 use Rattle.firing.specs.Firing.{opened-all, scanned-by, fires-on}
 use Rattle.scan.specs.Steps.{Going, visited, items, met-phase, visit-phase, round, Room, Ready}
-use Rattle.firing.proofs.Numbers.{upto-intro, upto-elim, count-both}
+use Rattle.firing.proofs.Numbers.{not-not, upto-intro, upto-elim, count-both}
 use Rattle.firing.proofs.Marks.{marks-length, marks-out, marks-low, met-old, new-elim, old-or-new}
 use Rattle.firing.proofs.Meeting.{opened-small}
 use Rattle.scan.proofs.Visited.{visited-elim, visited-length}
@@ -175,14 +175,10 @@ module _ (h : Held) (fits : Fits h) (g : Going) (ready : Ready h g) where
       let (s, b, n, o) = visited-new e m in
       rw (count-keep (λ n. not (is-met (round h g .run) n)) (upto (h .named)), count-keep (λ n. not (is-met (g .run) n)) (upto (h .named)))
       (keep-less (λ n. not (is-met (g .run) n)) (λ n. not (is-met (round h g .run) n)) (λ n k u. stays n (upto-elim (h .named) k) u)
-      (upto-intro b) o (rw (is-met-then (h .entry-name e) (small b)) (double (is-met (met-then h g) (h .entry-name e)) n)))
+      (upto-intro b) o (rw (is-met-then (h .entry-name e) (small b)) (not-not (is-met (met-then h g) (h .entry-name e)) n)))
     where
       small : {n : ℕ} → n < h .named → n < most-names
       small l = let f = fits .few-names in omega arith
-
-      double : (b : Bool) → T b → T (not (not b))
-      double true t = tt
-      double false t = absurd t
 
       stays : (n : ℕ) → n < h .named → T (not (is-met (round h g .run) n)) → T (not (is-met (g .run) n))
       stays n l u = not-T (is-met (g .run) n) (λ y. T-not (is-met (round h g .run) n) u (rw (is-met-then n (small l)) (met-stays n y)))

@@ -9,7 +9,7 @@ use mathlib.Core.List.{List, [], _∷_, _++_, List·Memᴰ, List·Memᴰ·head, 
 use lib.Dec.{T, T-not, ltb}
 use lib.ListN.{length, getD, set, length-set}
 use lib.Seq.{getD-set-same, getD-set-other}
-use borrow.Author.Tests.{le-ltb, ltb-true}
+use borrow.Author.Tests.{ltb-true}
 use Rattle.model.specs.Lists.{count}
 use Rattle.model.specs.Reading.{most-records}
 use Rattle.model.proofs.ListLaws.{true-T, false-T}
@@ -21,7 +21,7 @@ use Rattle.scan.specs.Steps.{Going, going, work-room, items, Ready}
 use Rattle.scan.specs.Starts.{first-scan, push, pushed}
 use Rattle.scan.specs.declared.Scan.{Scan}
 use Rattle.firing.proofs.Numbers.{count-none}
-use Rattle.firing.proofs.Clearing.{clear-length, clear-zero, few-unreached, few-unmet}
+use Rattle.firing.proofs.Clearing.{clear-length, clear-zero, few-unreached, few-unmet, none-met, none-reached}
 
 -- ---- the worklist
 
@@ -164,15 +164,6 @@ pub roots-on : (test : ℕ → Bool) (n : ℕ) {g₀ g v : Going} → g ≡ g₀
 roots-on test n e p = p ∙ ap (pushed test n) e
 
 -- ---- the state before round 1
-
--- a word that is zero marks nothing
-none-met : (w : List ℕ) (n : ℕ) → _≡_ {A = ℕ} (getD w n 0) 0 → T (not (is-met w n))
-unfolding is-met
-none-met w n e = false-T (le-ltb 0 (getD w n 0) (omega arith))
-
-none-reached : (w : List ℕ) (i : ℕ) → _≡_ {A = ℕ} (getD w (reached-column + i) 0) 0 → T (not (is-reached w i))
-unfolding is-reached
-none-reached w i e = false-T (le-ltb 0 (getD w (reached-column + i) 0) (omega arith))
 
 pub no-items : (w : List ℕ) (i : ℕ) → List·Memᴰ i (items (going first-scan w)) → ⊥
 unfolding items

@@ -16,7 +16,7 @@ use Rattle.firing.specs.Held.{Held, Fits}
 use Rattle.firing.specs.Met.{reached-column, work-column, run-end, is-met, is-reached, unreached}
 use Rattle.firing.specs.Firing.{fires-on}
 use Rattle.scan.specs.Steps.{Going, work-room, reach-record, counted, visit, visits-of, Room}
-use Rattle.firing.proofs.Numbers.{count-less, count-some}
+use Rattle.firing.proofs.Numbers.{not-not, count-less, count-some}
 
 all-cong : (p q : ℕ → Bool) (l : List ℕ) → ((n : ℕ) → List·Memᴰ n l → p n ≡ q n) → all p l ≡ all q l
 all-cong p q l e =
@@ -70,10 +70,6 @@ room-then room f =
 
 not-back : (a b : Bool) → (T a → T b) → T (not b) → T (not a)
 not-back a b f t = not-T a (λ u. T-not b t (f u))
-
-not-not : (b : Bool) → T b → T (not (not b))
-not-not true t = tt
-not-not false t = absurd t
 
 third : (a b c : Bool) → T (not (a && (b && not c))) → T a → T b → T c
 third true true true t u v = tt

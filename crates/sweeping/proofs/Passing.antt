@@ -12,7 +12,7 @@ use Rattle.model.proofs.ListLaws.{T-and, branch, cond-case}
 use Rattle.firing.specs.Held.{Held, Fits}
 use Rattle.firing.specs.Met.{reached-column, work-column, run-end, is-reached, marks, unreached}
 use Rattle.firing.specs.Firing.{opened-all}
-use Rattle.firing.proofs.Numbers.{count-less}
+use Rattle.firing.proofs.Numbers.{not-not, count-less}
 use Rattle.firing.proofs.Marks.{marks-length, marks-out}
 use Rattle.firing.proofs.Meeting.{opened-small}
 use Rattle.sweeping.specs.Sweeping.{Sweeping, sweeping, joins, joined, pass-record, passed, pass-all, Passes, last, more, fires-now, met-of}
@@ -27,10 +27,6 @@ behind-same = record { same-length = refl; far = λ j x. refl }
 
 pub behind-trans : {w v u : List ℕ} → Same-behind w v → Same-behind v u → Same-behind w u
 behind-trans p q = record { same-length = q .same-length ∙ p .same-length; far = λ j l. q .far j l ∙ p .far j l }
-
-not-not : (b : Bool) → T b → T (not (not b))
-not-not true t = t
-not-not false t = absurd t
 
 module _ {h : Held} (fits : Fits h) where
   -- a record met

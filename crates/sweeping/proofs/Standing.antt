@@ -23,6 +23,7 @@ use Rattle.firing.specs.Met.{reached-column, work-column, run-end, is-met, is-r
 use Rattle.firing.specs.Firing.{opened-all, scanned-by}
 use Rattle.firing.proofs.Numbers.{set-intro, set-elim, set-at, set-none, set-ascending}
 use Rattle.firing.proofs.Marks.{marks-nil, marks-append, marks-length, marks-out}
+use Rattle.firing.proofs.Clearing.{none-reached}
 use Rattle.firing.proofs.Meeting.{opened-small, Agrees, fires-at, met-round, label, reached-set}
 use Rattle.sweeping.specs.Sweeping.{Sweeping, sweeping, met-of, fires-now, joins, joined, pass-record, passed, pass-all, Passes, last, more}
 use Rattle.laws.specs.Passes.{Sweeps, last as last-pass, more as more-passes}
@@ -89,10 +90,6 @@ zero-word : (w : List ℕ) (n : ℕ) → _≡_ {A = ℕ} (getD w n 0) 0 → is-m
 unfolding is-met
 zero-word w n e = rw e
 
-zero-reached : (w : List ℕ) (i : ℕ) → _≡_ {A = ℕ} (getD w (reached-column + i) 0) 0 → T (not (is-reached w i))
-unfolding is-reached
-zero-reached w i e = rw e tt
-
 -- what records meet are names
 scans-small : (h : Held) → Fits h → (is : List ℕ) → ((i : ℕ) → List·Memᴰ i is → i < h .records) → (n : ℕ) → List·Memᴰ n (scanned-by h is) → n < h .named
 unfolding scanned-by
@@ -143,7 +140,7 @@ module _ {h : Held} {name : ℕ → Name} {a : Ask} {ms : Map (List Name)} {fs :
 
       none : (i : ℕ) → i < most-records → T (not (is-reached (marks 1 w (scanned-by h (chosen test (h .records)))) i))
       none i l =
-          zero-reached (marks 1 w (scanned-by h (chosen test (h .records)))) i
+          none-reached (marks 1 w (scanned-by h (chosen test (h .records)))) i
           (marks-out 1 w (scanned-by h (chosen test (h .records))) (reached-column + i)
           (λ m. let few = fits .few-names in let x = scans-small h fits (chosen test (h .records)) (λ j q. chosen-elim test (h .records) q .0) (reached-column + i) m in omega arith)
           ∙ zeros (reached-column + i) (omega arith))
