@@ -2,7 +2,7 @@
  * each fact came along, wimplejade_sweep, which filters by a second engine, and wimplejade_order, which checks what must come
  * before what.
  *
- * The archive is libwimplejade.a: `rt staticlib wimplejade` proves the crate and writes it to target/staticlib, `make install`
+ * The archive is libwimplejade.a: bin/archive proves the crate and writes it to target/staticlib, `make install`
  * puts it beside this header. It is for x86-64 Linux and needs no other library. docs/FORMAT.md of the repository describes
  * the file; wimplejade_helper.h has what most callers need around a call.
  */

@@ -1,6 +1,6 @@
 //! Links the archive of the proved library.
 //!
-//! `WIMPLEJADE_LIB` names an archive to take, by its whole path. Without it the script runs `rt staticlib wimplejade` in
+//! `WIMPLEJADE_LIB` names an archive to take, by its whole path. Without it the script runs `bin/archive` of
 //! the repository, which proves the library first: some minutes from nothing, half a minute once it is proved. Where
 //! documentation alone is built, nothing is linked.
 
@@ -9,12 +9,11 @@ use std::fs;
 use std::path::{Path, PathBuf};
 use std::process::{exit, Command};
 
-/// The archive that `rt staticlib` writes, below the top folder of the repository.
+/// The archive that `bin/archive` writes, below the top folder of the repository.
 const ARCHIVE: &str = "target/staticlib/libwimplejade.a";
 
 /// How to get an archive where none can be made.
-const HOW: &str =
-    "set WIMPLEJADE_LIB to the whole path of a libwimplejade.a, which `rt staticlib wimplejade` writes to \
+const HOW: &str = "set WIMPLEJADE_LIB to the whole path of a libwimplejade.a, which `bin/archive` writes to \
                    target/staticlib in the repository";
 
 fn main() {
@@ -58,14 +57,14 @@ fn proved() -> PathBuf {
     for source in ["crates", "crates.txt"] {
         println!("cargo:rerun-if-changed={}", top.join(source).display());
     }
-    let run = Command::new("rt").args(["staticlib", "wimplejade"]).current_dir(top).output();
+    let run = Command::new(top.join("bin/archive")).output();
     match run {
         Ok(output) if output.status.success() => top.join(ARCHIVE),
         Ok(output) => {
             eprint!("{}{}", String::from_utf8_lossy(&output.stdout), String::from_utf8_lossy(&output.stderr));
-            fail(&format!("`rt staticlib wimplejade` failed in {}", top.display()))
+            fail(&format!("`bin/archive` failed in {}", top.display()))
         }
-        Err(error) => fail(&format!("rt: {error}; {HOW}, here {}", top.join(ARCHIVE).display())),
+        Err(error) => fail(&format!("bin/archive: {error}; {HOW}, here {}", top.join(ARCHIVE).display())),
     }
 }
 

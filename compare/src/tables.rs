@@ -54,8 +54,8 @@ const HEAD: &str = "\
 -- The small files of compare/cases with their summaries and answers, shown by computation as F1 to F10 are.
 -- Written by `tables` of compare/: compare/README.md says how.
 use mathlib.Core.Path.{refl}
-use mathlib.Core.List.{List, [], _∷_}
-use Rattle·model·proofs.proofs.Printing.{Small, prints, All-print}
+use mathlib.Core.List.{List, [], ◌∷◌}
+use Rattle.model.proofs.Printing.{Small, prints, AllPrint}
 ";
 
 /// The small files of a folder that have no command, with their summaries, or those of a command, by name.
@@ -121,13 +121,13 @@ fn write_table(out: &mut String, number: usize, table: &[Small]) -> std::fmt::Re
     } else {
         writeln!(out, "\n-- {first} to {last}")?;
     }
-    writeln!(out, "files-{number} : List Small\nfiles-{number} =")?;
+    writeln!(out, "files_{number} : List Small\nfiles_{number} =")?;
     for (index, small) in table.iter().enumerate() {
         write_entry(out, index == 0, small)?;
     }
-    writeln!(out, "    ∷ []\n\n-- a wrong one is named in the error\npass-{number} : All-print files-{number}")?;
+    writeln!(out, "    ∷ []\n\n-- a wrong one is named in the error\npass_{number} : AllPrint files_{number}")?;
     let shown = table.iter().rev().fold("tt".to_owned(), |rest, _| format!("(refl, {rest})"));
-    writeln!(out, "unfolding prints files-{number}\npass-{number} = {shown}")
+    writeln!(out, "unfolding prints files_{number}\npass_{number} = {shown}")
 }
 
 fn write_entry(out: &mut String, is_first: bool, small: &Small) -> std::fmt::Result {

@@ -1,3 +1,5 @@
+#![tactic(auto)]
+
 ghost use Rattle.std.specs.Prelude.{◌+◌, ◌*◌, ◌≤◌, ◌<◌, ◌≡◌, length, get_or};
 ghost use Rattle.model.specs.Lists.{part};
 ghost use Rattle.model.specs.Terms.{free_v, leaf, call, app, forall, exists, let_in, labeled};
@@ -7,7 +9,7 @@ ghost use Rattle.terms.specs.Rows.{term_of, free_kind, leaf_kind, call_kind, op_
 ghost use Rattle.additions.specs.Additions.{no_word, row_word, added, rows_after, references_pushed, push_answer, Pushed, Patterns, AddsTerm};
 
 // What adding a row or a reference comes to.
-#[derive(Drop)]
+#[derive(Clone, Copy)]
 pub enum Added {
     Done,
     Full,

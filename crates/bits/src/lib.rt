@@ -1,4 +1,6 @@
 // The row of bits of the met names in words of the run's slice, 32 to a word, the lowest first, and the count of its ones.
+#![tactic(auto)]
+
 ghost use Rattle.std.specs.Prelude.{◌≡◌, ◌+◌, ◌*◌, ◌/◌, ◌≤◌, ◌<◌, length, take};
 ghost use Rattle.bits.specs.Bits.{bits_from, ones_of, SetBit, Unmarked, Marked, met_column, Met};
 

@@ -1,9 +1,15 @@
 // The cases of a test program: their head lines, and slices of other words before a call, looked at after it.
+#![tactic(auto)]
+
 ghost use Rattle.std.specs.Prelude.{◌+◌, ◌≤◌, ◌<◌, length};
 ghost use Rattle.cases.specs.Heads.{AtMost, HeadFits, NamePlaced, CasePlaced};
 
-use libc::{STDIN_FILENO, STDOUT_FILENO};
 use model::{Refusal, Verdict};
+
+// Standard input and output.
+const STDIN: i32 = 0;
+
+const STDOUT: i32 = 1;
 
 // The longest head line, file, working slice and result slice of a case, and the highest position.
 const MOST_HEAD: usize = 512;
@@ -18,7 +24,7 @@ const MOST_POSITION: usize = 1000000;
 
 // The numbers of a head line: the length of the file, the lengths of the working slices, the room of the result slice or of the
 // table, and the position, 0 where there is none.
-#[derive(Drop)]
+#[derive(Clone, Copy)]
 pub struct Sizes {
     pub length: usize,
     pub n0: usize,
@@ -32,7 +38,7 @@ pub struct Sizes {
 }
 
 // A case at the start of a window: where its file starts and ends, and its sizes.
-#[derive(Drop)]
+#[derive(Clone, Copy)]
 pub struct Case {
     pub start: usize,
     pub end: usize,
@@ -40,21 +46,21 @@ pub struct Case {
 }
 
 // What stands at the start of a window: a case, or none.
-#[derive(Drop)]
+#[derive(Clone, Copy)]
 pub enum Begun {
     At(Case),
     Nothing,
 }
 
 // What a head line says: the place of the case's name in it and the sizes; or it is none.
-#[derive(Drop)]
+#[derive(Clone, Copy)]
 enum Head {
     Case(usize, usize, Sizes),
     Bad,
 }
 
 // A number and where its field ends; or there is none.
-#[derive(Drop)]
+#[derive(Clone, Copy)]
 enum Size {
     Words(usize, usize),
     Nothing,
@@ -62,7 +68,7 @@ enum Size {
 
 // Writes bytes.
 pub fn put(bytes: &[u8]) {
-    io::write_all(STDOUT_FILENO, bytes);
+    io::write_all(STDOUT, bytes);
 }
 
 // The number of a word before a call: slices and places differ, none is zero, and every second one is large.
@@ -303,5 +309,5 @@ pub fn refill(window: &mut [u8], from: usize, to: usize) -> usize
         window[i] = window[from + i];
         i += 1;
     }
-    kept + io::read_full(STDIN_FILENO, &mut window[kept..])
+    kept + io::read_full(STDIN, &mut window[kept..])
 }

@@ -376,7 +376,7 @@ same_goal a roots q qs h =
         ⊎_elim (λ i. sym (T_true (any (eqb r.query) qs) (any_intro (eqb r.query) (subst (λ x. Memᴰ x qs) (sym same) i) (eqb_refl r.query)))) (λ none. absurd (none r m same)) h
 
 -- where nothing is triggered, the rounds end with the first
-one_round_only : {a : Ask} {ms : Map (List Name)} {fs : List Fact} {r end : Run} {scanned : List Name} → Ends a ms fs r scanned end
+one_round_only : {a : Ask} {ms : Map (List Name)} {fs : List Fact} {r : Run} {scanned : List Name} {end : Run} → Ends a ms fs r scanned end
     → T (is_nil (triggered ms fs r scanned)) → end ≡ after_round a ms fs r scanned
 one_round_only (last t) u = refl
 one_round_only {ms} {fs} {r} {scanned} (more t e) u = absurd (T_not (is_nil (triggered ms fs r scanned)) t u)

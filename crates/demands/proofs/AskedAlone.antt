@@ -399,6 +399,7 @@ record Chained (asks : List Line) (i : ℕ) (line : Line) : Type 0 where
 walk : (asks before : List Line) (first : Line) (further rest : List Line) → asks ≡ before ++ ((first ∷ further) ++ rest) → T (not (begins also_words first))
     → ((l : Line) → Memᴰ l further → T (begins also_words l)) → (j : ℕ) {line : Line} → Nth rest j line → (i : ℕ) → length before + length further + 1 + j ≡ i
     → Chained asks i line
+walk asks before first further [] e is_ask are j p i at = elim p [ ]
 walk asks before first further (l ∷ rest) e is_ask are zero here i at =
     ⊎_elim
     (λ t. record {
@@ -437,6 +438,7 @@ walk asks before first further (l ∷ rest) e is_ask are (suc j) (there n) i at 
     (T_dec (begins also_words l))
 
 chained : (asks : List Line) → AskFirst asks → (i : ℕ) {line : Line} → Nth asks i line → Chained asks i line
+chained [] first i p = elim p [ ]
 chained (l ∷ rest) first zero here =
     record {
       chain = record { before = []; first = l; further = []; after = rest; are = refl; is_ask = first l rest refl; are_also = λ m k. absurd (Memᴰ.not-nil k) };

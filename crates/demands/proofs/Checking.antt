@@ -47,7 +47,13 @@ stopped_check file works room e = rw e
 -- what the call comes to, with the reason
 data CheckView (file : List ℕ) (works : List Lent) (room : ℕ) : Checked → Type 0 where
   stops : {r : Refusal} {n : ℕ} → front file works ≡ stopped r n → CheckView file works room (refusal_at r n)
-  fits : (s : State) → front file works ≡ opened s → {c : Checked} → TableView room s c → CheckView file works room c
+  tight : (s : State) → front file works ≡ opened s → room < length (late_rows s)
+      → CheckView file works room (refusal_at refusal.Room (length (late_rows s)))
+  roomy : (s : State) → front file works ≡ opened s → length (late_rows s) ≤ room → CheckView file works room (listed_rows (late_rows s))
+
+fits : {file : List ℕ} {works : List Lent} {room : ℕ} (s : State) → front file works ≡ opened s → {c : Checked} → TableView room s c → CheckView file works room c
+fits s e (lacking h) = tight s e h
+fits s e (listing h) = roomy s e h
 
 check_view : (file : List ℕ) (works : List Lent) (room : ℕ) → CheckView file works room (check file works room)
 check_view file works room = go (front file works) refl
@@ -60,8 +66,8 @@ module _ (file : List ℕ) (works : List Lent) (room : ℕ) where
   -- a refusal is 8 or one of the front
   own_refusal : (r : Refusal) (n : ℕ) → {c : Checked} → CheckView file works room c → c ≡ refusal_at r n → (r ≡ refusal.Room) ⊎ OfFront r
   own_refusal r n (stops {r = q} {n = m} e) p = let is : q ≡ r = cc in inr (rw is at (front_stops file works q m e))
-  own_refusal r n (fits s e (lacking h)) p = inl cc
-  own_refusal r n (fits s e (listing h)) p = absurd (clash cc)
+  own_refusal r n (tight s e h) p = inl cc
+  own_refusal r n (roomy s e h) p = absurd (clash cc)
 
   -- any other refusal than 8 is that of the front
   refused_front : (r : Refusal) (n : ℕ) → (r ≡ refusal.Room → ⊥) → {c : Checked} → CheckView file works room c → c ≡ refusal_at r n → front file works ≡ stopped r n
@@ -69,14 +75,14 @@ module _ (file : List ℕ) (works : List Lent) (room : ℕ) where
       let is : q ≡ r = cc in
       let place : m ≡ n = cc in
       rw (is, place) at e
-  refused_front r n other (fits s e (lacking h)) p = absurd (other cc)
-  refused_front r n other (fits s e (listing h)) p = absurd (clash cc)
+  refused_front r n other (tight s e h) p = absurd (other cc)
+  refused_front r n other (roomy s e h) p = absurd (clash cc)
 
   -- 8 is given where the rows are more than the table has
   refused_room : (place : ℕ) {c : Checked} → CheckView file works room c → c ≡ refusal_at refusal.Room place → WhenTableShort file works room place
   refused_room place (stops {r = q} {n = m} e) p = let is : q ≡ refusal.Room = cc in absurd (not_8 (front_stops file works q m e) is)
-  refused_room place (fits s e (lacking h)) p = let (j, f) = (file_opened file works s).0 e in (j, (s, f, cc, h))
-  refused_room place (fits s e (listing h)) p = absurd (clash cc)
+  refused_room place (tight s e h) p = let (j, f) = (file_opened file works s).0 e in (j, (s, f, cc, h))
+  refused_room place (roomy s e h) p = absurd (clash cc)
 
   room_refused : (place : ℕ) → WhenTableShort file works room place → check file works room ≡ refusal_at refusal.Room place
   room_refused place (j, (s, f, is, h)) = rw is (open_check file works room ((file_opened file works s).1 (j, f)) ∙ at (table_view room s))
@@ -88,8 +94,8 @@ module _ (file : List ℕ) (works : List Lent) (room : ℕ) where
   -- the rows are given where the table holds them
   rows_given : (given : List Row) {c : Checked} → CheckView file works room c → c ≡ listed_rows given → WhenRowsListed file works room given
   rows_given given (stops e) p = absurd (clash cc)
-  rows_given given (fits s e (lacking h)) p = absurd (clash cc)
-  rows_given given (fits s e (listing h)) p =
+  rows_given given (tight s e h) p = absurd (clash cc)
+  rows_given given (roomy s e h) p =
       let (j, f) = (file_opened file works s).0 e in
       let is : given ≡ late_rows s = cc in
       (j, (s, f, is, rw is h))

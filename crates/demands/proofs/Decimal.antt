@@ -167,6 +167,7 @@ starts_front x xs b (starts e) = starts e
 only_digits : {f : Field} → Ended f → (fuel n : ℕ) → n < 10 ^ fuel → decimal 0 f ≡ some n → Starts f → f ≡ digits fuel n
 unfolding digits decimal
 only_digits v zero n h e s = absurd (let z = starts_positive s n e in omega arith)
+only_digits nothing (suc fuel) n h e s = elim s [ ]
 only_digits (last {xs} b v) (suc fuel) n h e s =
     let (m, read_front, read_last) = bind_some (decimal 0 xs) (sym (decimal_snoc 0 xs b) ∙ e) in
     let (is, sums) = then_some b m n read_last in

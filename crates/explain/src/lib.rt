@@ -1,5 +1,7 @@
 // The core of the call that tells why each fact came along: the rows of one position, left in words of the run's slice, and how
 // many of the numbered names are met.
+#![tactic(auto)]
+
 ghost use Rattle.std.specs.Prelude.{◌*◌, ◌≤◌, ◌<◌, ◌≡◌};
 ghost use Rattle.model.specs.Working.{six};
 ghost use Rattle.model.specs.Explaining.{refusal_at, why};
@@ -13,7 +15,7 @@ use model::{Asked, Counts, Refusal, Verdict, Why};
 // The answer in numbers: the number of the refusal, 0 for rows; its place; how many of the numbered names are met; how many rows
 // are filled.
 #[repr(C)]
-#[derive(Drop)]
+#[derive(Clone, Copy)]
 pub struct Reasons {
     pub refusal: u32,
     pub place: u32,

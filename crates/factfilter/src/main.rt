@@ -1,6 +1,8 @@
 // Document 01's program: reads a file from standard input and prints what a call comes to, the kept records of each ask or, by a
 // word, document 02's further calls and the summaries of the facts; or the refusal. A refusal is said in words on standard
 // error too.
+#![tactic(auto)]
+
 mod errors;
 mod list;
 mod order;
@@ -11,11 +13,12 @@ mod why;
 ghost use Rattle.std.specs.Prelude.{◌≤◌, length};
 ghost use Rattle.factfilter.specs.Input.{bytes_read};
 
-use libc::{STDERR_FILENO, STDIN_FILENO};
+use std::env::{Env, FillError};
+use std::io::Read;
 use text::{Cursor, NumberStep};
 
 // A call: the lists, the reasons at a position, the lists by the second engine, the check of definitions, or the summaries.
-#[derive(Drop)]
+#[derive(Clone, Copy)]
 enum Call {
     List,
     Why(usize),
@@ -25,7 +28,7 @@ enum Call {
 }
 
 // What the words after the program's name ask for: a call; or there is none, for want of a position or as no word says it.
-#[derive(Drop)]
+#[derive(Clone, Copy)]
 enum Command {
     Call(Call),
     NoPosition,
@@ -33,27 +36,29 @@ enum Command {
 }
 
 // What reading standard input comes to: so many bytes to its end or up to a full buffer, or a read that failed.
-#[derive(Drop)]
+#[derive(Clone, Copy)]
 enum Input {
     Bytes(usize),
     Failed,
 }
 
 // Reads standard input to its end, or until the buffer is full.
-fn read_input(buffer: &mut [u8]) -> Input
+fn read_input<R: Read>(input: &mut R, buffer: &mut [u8]) -> Input
     ensures { bytes_read result ≤ length buffer.new }
 {
     let mut n: usize = 0;
     while n < buffer.len() {
-        let got = libc::read(STDIN_FILENO, &mut buffer[n..]);
-        if got < 0 {
-            return Input::Failed;
+        match input.read(&mut buffer[n..]) {
+            Ok(more) => {
+                if more == 0 {
+                    return Input::Bytes(n);
+                }
+                n += more;
+            }
+            Err(_) => {
+                return Input::Failed;
+            }
         }
-        let more = io::count(got, &buffer[n..]);
-        if more == 0 {
-            return Input::Bytes(n);
-        }
-        n += more;
     }
     Input::Bytes(n)
 }
@@ -72,23 +77,43 @@ fn position_of(word: &[u8]) -> Command
     }
 }
 
+// Whether there is a word at a place, the program's name at 0.
+fn has_word(rt: &impl Env, i: usize) -> bool {
+    let mut word = [0u8; 64];
+    match rt.arg(i, &mut word) {
+        Ok(_) => true,
+        Err(FillError::TooLong) => true,
+        Err(FillError::NotPresent) => false,
+    }
+}
+
+// Reads the word at a place; its length, 0 where there is none or it is longer than the buffer.
+fn read_word(rt: &impl Env, i: usize, word: &mut [u8]) -> usize
+    ensures { result ≤ length word.new }
+{
+    match rt.arg(i, word) {
+        Ok(n) => n,
+        Err(_) => 0,
+    }
+}
+
 // What the position behind `why` asks for, the only word there.
-fn ask_why(count: usize) -> Command {
-    if count != 3 {
+fn ask_why(rt: &impl Env) -> Command {
+    if !has_word(rt, 2) || has_word(rt, 3) {
         return Command::NoPosition;
     }
     let mut word = [0u8; 64];
-    let n = os::arg(2, &mut word);
+    let n = read_word(rt, 2, &mut word);
     position_of(&word[..n])
 }
 
-// What a word asks for, of so many with the program's name.
-fn ask_word(word: &[u8], count: usize) -> Command {
+// What the first word asks for.
+fn ask_word(rt: &impl Env, word: &[u8]) -> Command {
     let end = word.len();
     if text::same_text(word, 0, end, b"why") {
-        return ask_why(count);
+        return ask_why(rt);
     }
-    if count != 2 {
+    if has_word(rt, 2) {
         return Command::Unknown;
     }
     if text::same_text(word, 0, end, b"list") {
@@ -107,14 +132,13 @@ fn ask_word(word: &[u8], count: usize) -> Command {
 }
 
 // What the words after the program's name ask for.
-fn read_command() -> Command {
-    let count = os::arg_count();
-    if count < 2 {
+fn read_command(rt: &impl Env) -> Command {
+    if !has_word(rt, 1) {
         return Command::Call(Call::List);
     }
     let mut word = [0u8; 64];
-    let n = os::arg(1, &mut word);
-    ask_word(&word[..n], count)
+    let n = read_word(rt, 1, &mut word);
+    ask_word(rt, &word[..n])
 }
 
 // Makes a call of a file and prints what it comes to.
@@ -131,28 +155,29 @@ fn run(file: &[u8], c: Call)
 }
 
 // Makes a call of the file on standard input.
-fn answer(c: Call) {
+fn answer(rt: &impl std::io::Input, c: Call) {
     let mut buffer = io::large_buffer();
-    match read_input(&mut buffer) {
+    let mut input = rt.reader();
+    match read_input(&mut input, &mut buffer) {
         Input::Bytes(n) => run(&buffer[..n], c),
         Input::Failed => {
-            io::write_all(STDERR_FILENO, b"standard input cannot be read\n");
+            io::write_all(errors::STDERR, b"standard input cannot be read\n");
         }
     }
 }
 
-fn main() {
-    match read_command() {
-        Command::Call(c) => answer(c),
+fn main(rt: HostRuntime) {
+    match read_command(&rt) {
+        Command::Call(c) => answer(&rt, c),
         Command::NoPosition => {
             io::write_all(
-                STDERR_FILENO,
+                errors::STDERR,
                 b"why takes a position, a number of at most 65,535\n",
             );
         }
         Command::Unknown => {
             io::write_all(
-                STDERR_FILENO,
+                errors::STDERR,
                 b"there is no such word; there are list, why POSITION, sweep, order and summaries\n",
             );
         }

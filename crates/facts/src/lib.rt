@@ -1,3 +1,5 @@
+#![tactic(auto)]
+
 ghost use Rattle.std.specs.Prelude.{◌≤◌, ◌<◌, ◌≡◌, length, eqb};
 ghost use Rattle.model.specs.Reading.{assume, most_group, most_names, most_records, most_entries};
 ghost use Rattle.model.specs.Outcome.{working_words};

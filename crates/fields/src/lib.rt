@@ -1,3 +1,5 @@
+#![tactic(auto)]
+
 ghost use Rattle.std.specs.Prelude.{◌≤◌, ◌≡◌, length};
 ghost use Rattle.model.specs.Lists.{part};
 ghost use Rattle.model.specs.Lines.{fields};
@@ -14,7 +16,7 @@ use names::Spelled;
 use text::{Cursor, FieldStep, NumberStep};
 
 // The kinds of term lines.
-#[derive(Drop)]
+#[derive(Clone, Copy)]
 pub enum TermKind {
     Free,
     Leaf,
@@ -27,7 +29,7 @@ pub enum TermKind {
 }
 
 // The kinds of record lines but `hide`, which is a kind of its own.
-#[derive(Drop)]
+#[derive(Clone, Copy)]
 pub enum RecordKind {
     Assume,
     Fun,
@@ -37,7 +39,7 @@ pub enum RecordKind {
 }
 
 // The kind of a line, of an ask whether it has groups; or the refusal of a line that has none.
-#[derive(Drop)]
+#[derive(Clone, Copy)]
 pub enum Kind {
     Ask(bool),
     Also,
@@ -48,7 +50,7 @@ pub enum Kind {
 }
 
 // An op word, or that there is none.
-#[derive(Drop)]
+#[derive(Clone, Copy)]
 enum OpWord {
     Is(Op),
     No,
@@ -319,7 +321,7 @@ pub fn counted(file: &[u8], k: Counts, kind: Kind, a: usize, e: usize) -> bool
 const PAST_NAMES: usize = 2049;
 
 // Where what was read ends: the references pushed, or the names; and the cursor after the fields. Or the refusal of a field.
-#[derive(Drop)]
+#[derive(Clone, Copy)]
 pub enum Upto {
     At(usize, Cursor),
     Refused(Refusal),
@@ -440,14 +442,14 @@ pub fn push_groups(
 }
 
 // A name's number, and how many names there are then: once a name had no room, past their limit, and the number says nothing.
-#[derive(Drop)]
+#[derive(Clone, Copy)]
 struct Spelt {
     pub number: usize,
     pub named: usize,
 }
 
 // The number of a name, how many names there are then, and the cursor after its field; or the refusal of the field.
-#[derive(Drop)]
+#[derive(Clone, Copy)]
 pub enum Word {
     Name(usize, usize, Cursor),
     Refused(Refusal),
@@ -511,7 +513,7 @@ pub fn spell_rest(file: &[u8], names: &mut [u32], from: usize, at: Cursor) -> Up
 }
 
 // An op word and the cursor after its field; or the refusal of the field.
-#[derive(Drop)]
+#[derive(Clone, Copy)]
 pub enum OpStep {
     Is(Op, Cursor),
     Refused(Refusal),

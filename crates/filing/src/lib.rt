@@ -1,3 +1,5 @@
+#![tactic(auto)]
+
 ghost use Rattle.std.specs.Prelude.{◌≤◌, ◌<◌, ◌≡◌};
 ghost use Rattle.model.specs.Reading.{content, most_names, most_terms};
 ghost use Rattle.model.specs.declared.LineKind.TheVariants as kind;
@@ -16,7 +18,7 @@ const MOST_FLAG: u32 = 1;
 const ONLY_GROUP: u32 = 0;
 
 // The term that the last field of a line is; or the refusal.
-#[derive(Drop)]
+#[derive(Clone, Copy)]
 enum Last {
     Term(usize),
     Refused(Refusal),

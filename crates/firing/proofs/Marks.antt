@@ -80,12 +80,12 @@ marks_out r w (n ∷ ns) k o =
     marks_out r (mark r w n) ns k (λ m. o (Memᴰ.tail m)) ∙ mark_other r w n k (λ e. o (Memᴰ.head e))
 
 -- a name of the list that was not met is met in round r
-pub marks_in : (r : ℕ) (w : List ℕ) {ns : List ℕ} {k : ℕ} → 0 < r → k < length w → get_or w k 0 ≡ 0 → Memᴰ k ns → get_or (marks r w ns) k 0 ≡ r
+pub marks_in : (r : ℕ) {k : ℕ} (w : List ℕ) {ns : List ℕ} → 0 < r → k < length w → get_or w k 0 ≡ 0 → Memᴰ k ns → get_or (marks r w ns) k 0 ≡ r
 unfolding marks fold_left
-marks_in r w {k} p l e (Memᴰ.head {x = n} {xs} s) =
+marks_in r {k} w p l e (Memᴰ.head {x = n} {xs} s) =
     let z : get_or (mark r w n) k 0 ≡ r = rw (← s, mark_zero r w k l e) in
     marks_old r (mark r w n) xs k (omega arith) ∙ z
-marks_in r w {k} p l e (Memᴰ.tail {x = n} {xs} m) =
+marks_in r {k} w p l e (Memᴰ.tail {x = n} {xs} m) =
     ⊎_elim
     (λ (s : k ≡ n).
     let z : get_or (mark r w n) k 0 ≡ r = rw (← s, mark_zero r w k l e) in

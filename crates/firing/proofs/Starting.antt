@@ -104,6 +104,7 @@ module _ {file names recs lists : List ℕ} {k : Counts} (x : Filled file names 
   ambient_out {f} m t n = go (no_ambients (ask_of recs a)) n
     where
       go : (b : Bool) → T (not b) → Memᴰ f (cond b [] (keep (λ f. is_ambient_root f.kind) fs))
+      go true n = elim n [ ]
       go false n = keep_intro (λ (f : Fact). is_ambient_root f.kind) m t
 
   -- a record that starts, with this free name

@@ -1,3 +1,5 @@
+#![tactic(auto)]
+
 ghost use Rattle.std.specs.Prelude.{ℕ, ◌-◌, ◌≤◌, ◌<◌, ◌≡◌, List, length, get_or};
 ghost use Rattle.model.specs.Lists.{part};
 ghost use Rattle.model.specs.Names.{Name};
@@ -14,7 +16,7 @@ pub const NAME_MARK: usize = 8192;
 pub const ROW_MARK: usize = 12288;
 
 // What gathering names comes to: where the names end in the slice, or that there is no room for them.
-#[derive(Drop)]
+#[derive(Clone, Copy)]
 pub enum Walked {
     Names(usize),
     Full,

@@ -14,7 +14,7 @@ use Rattle.laws.proofs.FuelLaws.{history_follows}
 
 module _ (a : Ask) (ms : Map (List Name)) (fs : List Fact) where
   -- a history begins with its first state
-  pub first_state : {r end : Run} {scanned : List Name} {h : List Run} → IsHistory a ms fs r scanned h end → (rest : List Run) × (h ≡ r ∷ rest)
+  pub first_state : {r : Run} {scanned : List Name} {end : Run} {h : List Run} → IsHistory a ms fs r scanned h end → (rest : List Run) × (h ≡ r ∷ rest)
   first_state (last t) = (_, refl)
   first_state (more t e) = (_, refl)
 

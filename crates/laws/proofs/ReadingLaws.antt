@@ -147,6 +147,7 @@ first_lowest s (later n (later t (later u (later r (at_once h))))) =
     past_triggers (apart n tt) (⊎_elim (apart t tt) (apart u tt)) (apart r tt) (inl h)
 first_lowest s (later n (later t (later u (later r (later e (at_once h)))))) =
     past_triggers (apart n tt) (⊎_elim (apart t tt) (apart u tt)) (apart r tt) (inr h)
+first_lowest s (later n (later t (later u (later r (later e (later _ p)))))) = elim p [ ]
 
 -- the lowest refusal is that of the first limit passed
 lowest_first : {s : State} {x : Refusal} → Lowest s x → FirstPast (limits s) x
@@ -171,6 +172,7 @@ module _ {A : Type 0} where
   -- the refusal is that of the first limit passed
   under_first : (l : List (ℕ × ℕ × Refusal)) {x : Refusal} (a : A) → FirstPast l x → under_limits l a ≡ refused x
   unfolding under_limits
+  under_first [] a p = elim p [ ]
   under_first ((counted, limit, r) ∷ more) a (at_once h) =
       cond_false (leb counted limit) (under_limits more a) (refused r)
       (not_T (leb counted limit) (λ t. let k = leb→le counted limit t in omega arith))

@@ -1,3 +1,5 @@
+#![tactic(auto)]
+
 ghost use Rattle.std.specs.Prelude.{ℕ, ◌≤◌, ◌<◌, ◌≡◌, length, get_or};
 ghost use Rattle.model.specs.Reading.{most_names, most_records};
 ghost use Rattle.model.specs.Outcome.{working_words};

@@ -1,5 +1,5 @@
 // Why a file or a call is refused. The number of each in documents 01 and 02 is `refusal_number` of specs/Outcome.antt.
-#[derive(Drop)]
+#[derive(Clone, Copy)]
 pub enum Refusal {
     Form,
     Name,
@@ -18,7 +18,7 @@ pub enum Refusal {
 }
 
 // What a call comes to: the lists of the asks, or a refusal.
-#[derive(Drop)]
+#[derive(Clone, Copy)]
 pub enum Verdict {
     Accepted,
     Refused(Refusal),
@@ -26,7 +26,7 @@ pub enum Verdict {
 
 // The answer of a call, its counts by the position of an ask or also line, 0 past the last. A refusal has its place, and every
 // count 0; lists have place 0.
-#[derive(Drop)]
+#[derive(Clone, Copy)]
 pub struct Answer {
     pub verdict: Verdict,
     pub place: u32,
@@ -37,7 +37,7 @@ pub struct Answer {
 
 // What the call of reasons comes to: how many of the numbered names are met, and how many rows are filled. A refusal has its place,
 // and both counts 0; rows have place 0.
-#[derive(Drop)]
+#[derive(Clone, Copy)]
 pub struct Why {
     pub verdict: Verdict,
     pub place: u32,
@@ -47,7 +47,7 @@ pub struct Why {
 
 // What the call of the sweep comes to: the kept lines and the passes by the position of an ask or also line, 0 past the last. A
 // refusal has its place, and every count 0; lists have place 0.
-#[derive(Drop)]
+#[derive(Clone, Copy)]
 pub struct Swept {
     pub verdict: Verdict,
     pub place: u32,
@@ -57,7 +57,7 @@ pub struct Swept {
 
 // What the call of the check of definitions comes to: how many rows are listed. A refusal has its place, and no rows; rows have
 // place 0.
-#[derive(Drop)]
+#[derive(Clone, Copy)]
 pub struct Ordered {
     pub verdict: Verdict,
     pub place: u32,
@@ -66,7 +66,7 @@ pub struct Ordered {
 
 // A row of a lent table: a line, the number of a name in order of first spelling, and what the row says of the two.
 #[repr(C)]
-#[derive(Drop)]
+#[derive(Clone, Copy)]
 pub struct Row {
     pub line: u32,
     pub number: u32,
@@ -74,7 +74,7 @@ pub struct Row {
 }
 
 // The kind of a summary: dropped, ambient (true: also a root), or so many disjuncts of trigger names.
-#[derive(Drop)]
+#[derive(Clone, Copy)]
 pub enum AsumKind {
     Drop,
     Ambient(bool),
@@ -82,7 +82,7 @@ pub enum AsumKind {
 }
 
 // The word of an `op` line.
-#[derive(Drop)]
+#[derive(Clone, Copy)]
 pub enum Op {
     TrueOp,
     Iff,
@@ -92,7 +92,7 @@ pub enum Op {
 }
 
 // The kind of a line.
-#[derive(Drop)]
+#[derive(Clone, Copy)]
 pub enum LineKind {
     Ask,
     Ask2,
@@ -114,7 +114,7 @@ pub enum LineKind {
 }
 
 // The order of two names in bytes, a prefix first.
-#[derive(Drop)]
+#[derive(Clone, Copy)]
 pub enum Order {
     Before,
     Same,
@@ -159,7 +159,7 @@ pub const WORKING_WORDS: usize = 16384;
 
 // How much of the tables the lines read so far fill: asks (the also lines among them), hide lines, names, references, terms,
 // records (the hide lines among them), trigger entries, name uses; the next mark; and whether the file is of the form with groups.
-#[derive(Drop)]
+#[derive(Clone, Copy)]
 pub struct Counts {
     pub asks: usize,
     pub hides: usize,
@@ -175,7 +175,7 @@ pub struct Counts {
 
 // What a run is asked: the queries of the positions from `first` on before `end`, an options number, and the number of the groups
 // that are admitted.
-#[derive(Drop)]
+#[derive(Clone, Copy)]
 pub struct Asked {
     pub first: usize,
     pub end: usize,
@@ -184,7 +184,7 @@ pub struct Asked {
 }
 
 // What a line comes to: the counts then, or its refusal.
-#[derive(Drop)]
+#[derive(Clone, Copy)]
 pub enum Step {
     On(Counts),
     Refused(Refusal),

@@ -1,3 +1,5 @@
+#![tactic(auto)]
+
 ghost use Rattle.std.specs.Prelude.{◌+◌, ◌≤◌, ◌<◌, ◌≡◌, length};
 ghost use Rattle.model.specs.Lists.{part};
 ghost use Rattle.model.specs.Reading.{most_names};
@@ -9,14 +11,14 @@ ghost use Rattle.names.specs.Table.{length_column, name_start, name_length, name
 use model::Order;
 
 // What a look_up finds: the name's number, or the rank where the name belongs in byte order.
-#[derive(Drop)]
+#[derive(Clone, Copy)]
 pub enum Found {
     At(usize),
     Missing(usize),
 }
 
 // What spelling a name comes to: the number that it has, the number that it is given, or that the table is full.
-#[derive(Drop)]
+#[derive(Clone, Copy)]
 pub enum Spelled {
     Known(usize),
     New(usize),

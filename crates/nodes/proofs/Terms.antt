@@ -70,7 +70,7 @@ pushed_words {refs} {rows} {start} {used} {many} {named} (w ∷ ws) p s h =
     let d : w % 4096 + 4096 * (w / 4096) ≡ w = omega arith in
     let one : Pushed (references_pushed refs used w) rows start (used + 1) many named =
     rw d at (pushed_one (w % 4096) (w / 4096) p (s w (Memᴰ.head refl)) (omega arith)) in
-    rw e (pushed_words ws one (λ u m. s u (Memᴰ.tail m)) (omega arith))
+    rw e (pushed_words {refs = references_pushed refs used w} ws one (λ u m. s u (Memᴰ.tail m)) (omega arith))
 
 -- a row is written into the columns of the rows
 row_kept : (rows : List ℕ) (many word start extra : ℕ) → SameBut 0 rows_marks_start rows (rows_after rows many word start extra)

@@ -1,3 +1,5 @@
+#![tactic(auto)]
+
 ghost use Rattle.std.specs.Prelude.{◌≤◌, ◌≡◌};
 ghost use Rattle.model.specs.Summaries.{op_number};
 ghost use Rattle.model.specs.Reading.{most_terms};
@@ -13,7 +15,7 @@ use model::{Counts, Op, Refusal, Step};
 use text::{Cursor, NumberStep};
 
 // Where the references of a quantifier end, and how many groups it has; or the refusal of a field.
-#[derive(Drop)]
+#[derive(Clone, Copy)]
 enum Quantifier {
     Read(usize, usize),
     Refused(Refusal),
@@ -44,7 +46,7 @@ fn push_quantifier(file: &[u8], refs: &mut [u32], from: usize, many: usize, c: C
 }
 
 // The refusal of the first limit that is passed; or none is.
-#[derive(Drop)]
+#[derive(Clone, Copy)]
 enum Passed {
     Full(Refusal),
     Nothing,

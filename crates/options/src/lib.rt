@@ -1,3 +1,5 @@
+#![tactic(auto)]
+
 ghost use Rattle.std.specs.Prelude.{ℕ, ◌≤◌, ◌≡◌, List};
 ghost use Rattle.model.specs.Reading.{most_options};
 ghost use Rattle.model.specs.Rounds.{admits};

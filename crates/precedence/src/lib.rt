@@ -1,5 +1,7 @@
 // What must come before what: the rows of the check over all def lines, put into words of the run's slice, and the core of its
 // call.
+#![tactic(auto)]
+
 ghost use Rattle.std.specs.Prelude.{◌+◌, ◌*◌, ◌≤◌, ◌<◌, ◌≡◌, length};
 ghost use Rattle.model.specs.Reading.{most_names, most_records, most_uses};
 ghost use Rattle.model.specs.Outcome.{working_words};
@@ -18,7 +20,7 @@ use model::{Counts, Ordered, Refusal, Verdict};
 
 // The answer in numbers: the number of the refusal, 0 for rows; its place; how many rows are listed.
 #[repr(C)]
-#[derive(Drop)]
+#[derive(Clone, Copy)]
 pub struct Late {
     pub refusal: u32,
     pub place: u32,

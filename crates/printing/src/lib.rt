@@ -1,5 +1,7 @@
 // The printed form of an answer: document 01's lines, one at a time into a lent slice, and all to standard output; the same of the
 // lists of the sweep and of the rows of reasons and of the check. A refusal in words.
+#![tactic(auto)]
+
 ghost use Rattle.std.specs.Prelude.{ℕ, ◌+◌, ◌*◌, ◌≤◌, ◌<◌, ◌≡◌, List, [], length, get_or};
 ghost use Rattle.model.specs.Lists.{part, sum};
 ghost use Rattle.model.specs.Lines.{fields};
@@ -12,11 +14,13 @@ ghost use Rattle.printing.specs.Printed.{BytesPut, TextBegins, Starts, SameFrom,
 ghost use Rattle.printing.specs.Printed.{reason, has_line, reason_line};
 ghost use Rattle.printing.specs.Answers.{Told, LineTold, FoundLine};
 
-use libc::STDOUT_FILENO;
 use model::{Answer, Refusal, Row, Swept, Verdict};
 
+// Standard output.
+const STDOUT: i32 = 1;
+
 // A line of the printed lists: the position of its list, where the list starts in the result slice, which of its lines it is.
-#[derive(Drop)]
+#[derive(Clone, Copy)]
 struct Line {
     position: usize,
     start: usize,
@@ -24,7 +28,7 @@ struct Line {
 }
 
 // A part of the file: where it starts and ends.
-#[derive(Drop)]
+#[derive(Clone, Copy)]
 struct Span {
     start: usize,
     end: usize,
@@ -383,7 +387,7 @@ pub fn print(file: &[u8], a: Answer, out: &[u32], starts: &mut [u32], text: &mut
     let mut j: usize = 0;
     while j < count {
         let n = answer_line(file, starts, many, a, out, j, text);
-        if !io::write_all(STDOUT_FILENO, &text[..n]) {
+        if !io::write_all(STDOUT, &text[..n]) {
             return false;
         }
         j += 1;
@@ -407,7 +411,7 @@ fn print_kept(
     let mut i: usize = 0;
     while i < count {
         let n = kept_line(file, starts, many, out[from + i], text);
-        if !io::write_all(STDOUT_FILENO, &text[..n]) {
+        if !io::write_all(STDOUT, &text[..n]) {
             return false;
         }
         i += 1;
@@ -419,7 +423,7 @@ fn print_kept(
 fn print_pass(kept: u32, passes: u32) -> bool {
     let mut text = [0u8; 128];
     let n = pass_line(kept, passes, &mut text);
-    io::write_all(STDOUT_FILENO, &text[..n])
+    io::write_all(STDOUT, &text[..n])
 }
 
 // Prints the lists of the sweep by their counts; whether each line was written. A position that was asked has a pass.
@@ -526,7 +530,7 @@ pub fn print_rows(
     let mut i: usize = 0;
     while i < count {
         let n = table_line(file, starts, many, names, named, rows, i, reasons, text);
-        if !io::write_all(STDOUT_FILENO, &text[..n]) {
+        if !io::write_all(STDOUT, &text[..n]) {
             return false;
         }
         i += 1;
@@ -540,14 +544,14 @@ pub fn print_count(word: &[u8], n: usize) -> bool
 {
     let mut text = [0u8; 64];
     let k = count_line(word, n, &mut text);
-    io::write_all(STDOUT_FILENO, &text[..k])
+    io::write_all(STDOUT, &text[..k])
 }
 
 // Prints the line of a refusal; whether it was written.
 pub fn print_refusal(r: Refusal, place: u32) -> bool {
     let mut text = [0u8; 128];
     let n = refused_line(r, place, &mut text);
-    io::write_all(STDOUT_FILENO, &text[..n])
+    io::write_all(STDOUT, &text[..n])
 }
 
 // The sum of the counts of an answer.

@@ -1,5 +1,7 @@
 // Why each fact came along, on numbers: a row for each reached fact and each name that it lists and that was met no later than
 // the fact's round. The rows stand in words of the slice of the references, which is free after the reading.
+#![tactic(auto)]
+
 ghost use Rattle.std.specs.Prelude.{◌+◌, ◌≤◌, ◌<◌, ◌≡◌, length};
 ghost use Rattle.model.specs.Reading.{most_names};
 ghost use Rattle.model.specs.Outcome.{working_words};

@@ -1,3 +1,5 @@
+#![tactic(auto)]
+
 ghost use Rattle.std.specs.Prelude.{◌≤◌, ◌<◌, ◌≡◌, [], length};
 ghost use Rattle.model.specs.Reading.{head, hide, fun, def, retain, root, most_names, most_records};
 ghost use Rattle.model.specs.Rounds.{asks_for};

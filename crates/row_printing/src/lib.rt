@@ -1,4 +1,6 @@
 // The printed answers of the calls that list rows. Each row has the names of the file, which is opened once more for them.
+#![tactic(auto)]
+
 ghost use Rattle.std.specs.Prelude.{◌*◌, ◌≤◌, length};
 ghost use Rattle.names.specs.Table.{Table};
 

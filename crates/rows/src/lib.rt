@@ -1,4 +1,6 @@
 // Rows of three numbers: in two words each of a working slice until they are written, and in a lent slice of structs.
+#![tactic(auto)]
+
 ghost use Rattle.std.specs.Prelude.{◌+◌, ◌*◌, ◌≤◌, ◌<◌, ◌≡◌, ◌++◌, length, get_or, set, drop};
 ghost use Rattle.words.specs.Slices.{Zeroed};
 ghost use Rattle.rows.specs.Rows.{row, pair, rows_held};

@@ -1,3 +1,5 @@
+#![tactic(auto)]
+
 ghost use Rattle.std.specs.Prelude.{ℕ, ◌+◌, ◌≤◌, ◌<◌, ◌≡◌, List, T, length};
 ghost use Rattle.model.specs.Names.{Name, starts_with};
 ghost use Rattle.model.specs.Reading.{most_names, most_terms};
@@ -9,7 +11,7 @@ ghost use Rattle.rules.specs.Views.{Tables, terms_in, is_call_at, is_head_at, is
 ghost use Rattle.rules.specs.Choices.{Rule, OfTables, Chosen, RuledAs, choose_1, choose_2, choose_3, choose_4, choose_5, choose_6, choose_7, choose_8, choose_9, choose_10, choose_11, token_choice, ambient_choice, ambient_number, kind_choice, Within, as_option};
 
 // Where the disjuncts of a fact's trigger names come from.
-#[derive(Drop)]
+#[derive(Clone, Copy)]
 pub enum Choice {
     // One disjunct: the free names of a term.
     One(usize),
@@ -32,28 +34,28 @@ pub enum Choice {
 }
 
 // What becomes of a fact: the number of the rule that says it, 0 where its own triggers do, and the choice.
-#[derive(Drop)]
+#[derive(Clone, Copy)]
 struct Ruled {
     rule: usize,
     choice: Choice,
 }
 
 // What a rule comes to: it does not hold, or its choice.
-#[derive(Drop)]
+#[derive(Clone, Copy)]
 enum Tried {
     No,
     Yes(Choice),
 }
 
 // An argument, where there is one.
-#[derive(Drop)]
+#[derive(Clone, Copy)]
 enum Argument {
     No,
     Is(usize),
 }
 
 // Two arguments, where there are two.
-#[derive(Drop)]
+#[derive(Clone, Copy)]
 enum Arguments {
     No,
     Are(usize, usize),

@@ -25,12 +25,12 @@ use Rattle.firing.proofs.Meeting.{Agrees, reached_set}
 use Rattle.scan.proofs.Rounds.{At, at_then, triggered_then}
 
 module _ {a : Ask} {ms : Map (List Name)} {fs : List Fact} where
-  goes_on : {run end : Run} {scanned : List Name} → Ends a ms fs run scanned end → T (not (is_nil (triggered ms fs run scanned)))
+  goes_on : {run : Run} {scanned : List Name} {end : Run} → Ends a ms fs run scanned end → T (not (is_nil (triggered ms fs run scanned)))
       → Ends a ms fs (after_round a ms fs run scanned) (next_scanned a ms fs run scanned) end
   goes_on (last {r} {scanned} t) u = absurd (T_not (is_nil (triggered ms fs r scanned)) u t)
   goes_on (more t e) u = e
 
-  stops : {run end : Run} {scanned : List Name} → Ends a ms fs run scanned end → T (not (not (is_nil (triggered ms fs run scanned))))
+  stops : {run : Run} {scanned : List Name} {end : Run} → Ends a ms fs run scanned end → T (not (not (is_nil (triggered ms fs run scanned))))
       → end ≡ after_round a ms fs run scanned
   stops (last t) u = refl
   stops (more {r} {end} {scanned} t e) u = absurd (T_not (not (is_nil (triggered ms fs r scanned))) u t)

@@ -82,7 +82,7 @@ module _ {h : Held} {name : ℕ → Name} {a : Ask} {ms : Map (List Name)} {fs :
     told : get_or g.run c 0 ≡ 0 → 0 < get_or end_g.run c 0 → get_or end_g.run c 0 ≡ run.rounds + find_index test hist
 
   tells : {c : ℕ} {test : Run → Bool} → Clock c test → {g end_g : Going} → Rounds h g end_g → Ready h g
-      → {run end : Run} {scanned : List Name} {hist : List Run} → At h name g run scanned → IsHistory a ms fs run scanned hist end
+      → {run : Run} {scanned : List Name} {end : Run} {hist : List Run} → At h name g run scanned → IsHistory a ms fs run scanned hist end
       → Told c test g end_g run hist
   unfolding after_round
   tells {c} {test} k (last_round {g} t) ready {run} {scanned} at (last u) =

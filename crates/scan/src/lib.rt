@@ -1,3 +1,5 @@
+#![tactic(auto)]
+
 ghost use Rattle.std.specs.Prelude.{◌+◌, ◌*◌, ◌≤◌, ◌<◌, ◌≡◌, true, false, length};
 ghost use Rattle.model.specs.Reading.{most_records, most_entries};
 ghost use Rattle.model.specs.Outcome.{working_words};
@@ -23,7 +25,7 @@ const NO_AMBIENTS: usize = 1;
 
 // The state of a run, or of a chain of stretches: the part of the worklist that the next round scans, the visits and the rounds
 // so far, and whether the last round triggered a fact.
-#[derive(Drop)]
+#[derive(Clone, Copy)]
 pub struct Scan {
     pub from: usize,
     pub to: usize,

@@ -1,3 +1,5 @@
+#![tactic(auto)]
+
 ghost use Rattle.std.specs.Prelude.{◌+◌, ◌≤◌, ◌<◌, ◌≡◌, List, length};
 ghost use Rattle.model.specs.Lists.{part};
 ghost use Rattle.model.specs.Names.{Name};
@@ -22,7 +24,7 @@ use rules::Choice;
 use triggers::Filed;
 
 // The limits that a fact may pass, in the order in which they are tried: names, trigger entries, name uses.
-#[derive(Drop)]
+#[derive(Clone, Copy)]
 pub enum Limit {
     Names,
     Entries,
@@ -30,7 +32,7 @@ pub enum Limit {
 }
 
 // The kind of a fact, where its trigger entries end, and how many names the table has; or the limit passed.
-#[derive(Drop)]
+#[derive(Clone, Copy)]
 enum Sorted {
     Kind(AsumKind, usize, usize),
     Over(Limit),
@@ -38,7 +40,7 @@ enum Sorted {
 
 // A fact's summary. Its trigger entries and its free names stand in the lent slice: where each of these lists ends, counted
 // from the list's start in the slice; how many names the table has, and the next mark.
-#[derive(Drop)]
+#[derive(Clone, Copy)]
 pub struct Summary {
     pub kind: AsumKind,
     pub entries: usize,
@@ -48,7 +50,7 @@ pub struct Summary {
 }
 
 // What summarising a fact comes to: its summary, or the limit passed.
-#[derive(Drop)]
+#[derive(Clone, Copy)]
 pub enum Summarized {
     Done(Summary),
     Over(Limit),

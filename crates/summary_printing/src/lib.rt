@@ -1,5 +1,7 @@
 // The printed summaries of the facts of a file, from its tables: a line for each, `fact,LINE`, its name and its rule where they
 // are asked for, `drop`, `ambient,0` or `1`, or `triggers` with its disjuncts, then its free names. Names are in byte order.
+#![tactic(auto)]
+
 ghost use Rattle.std.specs.Prelude.{◌≤◌, length};
 ghost use Rattle.model.specs.Reading.{most_records};
 ghost use Rattle.model.specs.Outcome.{working_words};
@@ -8,17 +10,19 @@ ghost use Rattle.macros.specs.Macros.{Filled};
 ghost use Rattle.reader.specs.Lines.{TermsStand};
 ghost use Rattle.summary_printing.specs.Facts.{Headed, Listed, Printable};
 
-use libc::STDOUT_FILENO;
 use model::Counts;
+
+// Standard output.
+const STDOUT: i32 = 1;
 
 // Prints bytes; whether they were written.
 fn put(bytes: &[u8]) -> bool {
-    io::write_all(STDOUT_FILENO, bytes)
+    io::write_all(STDOUT, bytes)
 }
 
 // Prints a number in decimal digits; whether it was written.
 fn put_number(n: usize) -> bool {
-    io::print_decimal(STDOUT_FILENO, n as u64)
+    io::print_decimal(STDOUT, n as u64)
 }
 
 // Whether the words from `a` up to `e` have the number of a name.

@@ -168,14 +168,14 @@ module _ (line : ℕ → ℕ) where
       (λ d. note_other i w n (supplier_column + m) (λ e. d (omega (arith, e)))) (equal m n)
 
   -- one among them whose round fits is noted, if the record goes before
-  pub notes_in : (i : ℕ) (w : List ℕ) {ns : List ℕ} {m : ℕ} → m < most_names → i < most_records → supplier_column + most_names ≤ length w
+  pub notes_in : (i : ℕ) {m : ℕ} (w : List ℕ) {ns : List ℕ} → m < most_names → i < most_records → supplier_column + most_names ≤ length w
       → get_or w m 0 ≡ suc (get_or w (reached_column + i) 0) → goes_before line i (get_or w (supplier_column + m) 0) ≡ true → Memᴰ m ns
       → get_or (notes line i w ns) (supplier_column + m) 0 ≡ suc i
   unfolding notes fold_left
-  notes_in i w {m} a b l e z (Memᴰ.head {x = n} {xs} q) =
+  notes_in i {m} w a b l e z (Memᴰ.head {x = n} {xs} q) =
       let y : get_or (note line i w n) (supplier_column + m) 0 ≡ suc i = rw (← q) (note_new i w m (omega arith) e z) in
       notes_kept i (note line i w n) xs m (before_self line i (get_or (note line i w n) (supplier_column + m) 0) y) ∙ y
-  notes_in i w {m} a b l e z (Memᴰ.tail {x = n} {xs} j) = ⊎_elim
+  notes_in i {m} w a b l e z (Memᴰ.tail {x = n} {xs} j) = ⊎_elim
       (λ (q : m ≡ n).
       let y : get_or (note line i w n) (supplier_column + m) 0 ≡ suc i = rw (← q) (note_new i w m (omega arith) e z) in
       notes_kept i (note line i w n) xs m (before_self line i (get_or (note line i w n) (supplier_column + m) 0) y) ∙ y)

@@ -1,3 +1,5 @@
+#![tactic(auto)]
+
 ghost use Rattle.std.specs.Prelude.{◌+◌, ◌≤◌, ◌<◌, ◌≡◌, [], length};
 ghost use Rattle.model.specs.Reading.{most_records};
 ghost use Rattle.model.specs.Outcome.{refusal_at, working_words};
@@ -12,14 +14,14 @@ use front::Opened;
 use model::{Counts, Refusal, Swept, Verdict};
 
 // The counts of one list: its lines, and the passes of its sweep.
-#[derive(Drop)]
+#[derive(Clone, Copy)]
 struct Tally {
     pub kept: u32,
     pub passes: u32,
 }
 
 // The answer of all positions, and how many lines their lists have together.
-#[derive(Drop)]
+#[derive(Clone, Copy)]
 struct Tallied {
     pub answer: Swept,
     pub total: usize,

@@ -1,3 +1,5 @@
+#![tactic(auto)]
+
 ghost use Rattle.std.specs.Prelude.{ℕ, ◌+◌, ◌≤◌, ◌<◌, ◌≡◌, Bool, length};
 ghost use Rattle.model.specs.Lists.{any, part};
 ghost use Rattle.model.specs.Reading.{most_names, most_records, most_entries};

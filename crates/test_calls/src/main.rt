@@ -1,6 +1,8 @@
 // Runs the cases of the further calls on standard input, one after the other, each over slices of its own lengths that hold other
 // words before the call, and prints the answer of each and whether its slices came back as the documents say. The calls that list
 // rows are run by their cores, which leave the rows in words of the run's slice.
+#![tactic(auto)]
+
 ghost use Rattle.std.specs.Prelude.{◌≤◌, length};
 ghost use Rattle.model.specs.Lists.{sum};
 ghost use Rattle.cases.specs.Heads.{most_file, Sized, Lends};

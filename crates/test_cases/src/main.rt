@@ -1,5 +1,7 @@
 // Runs the cases on standard input, one after the other, each over slices of its own lengths that hold other words before the
 // call, and prints the answer of each and whether its slices came back as document 01 says.
+#![tactic(auto)]
+
 ghost use Rattle.std.specs.Prelude.{◌≤◌, length};
 ghost use Rattle.model.specs.Outcome.{Outcome};
 ghost use Rattle.printing.specs.Answers.{Told};

@@ -1,23 +1,27 @@
 // Runs `gather_term` and `gather_list` of `gather` on deep, wide and shared tables, each built anew, and prints what each
 // comes to.
+#![tactic(auto)]
+
 ghost use Rattle.std.specs.Prelude.{◌+◌, ◌≤◌, ◌<◌, length};
 ghost use Rattle.test_gather.specs.Tables.{Blank, UnmarkedTable};
 
 use gather::Walked;
-use libc::STDOUT_FILENO;
+
+// Standard output.
+const STDOUT: i32 = 1;
 
 // Prints a line: the name of the table, and how many names were gathered or that there was no room.
 fn show(label: &[u8], walked: Walked) {
-    io::write_all(STDOUT_FILENO, label);
+    io::write_all(STDOUT, label);
     match walked {
         Walked::Names(n) => {
-            io::print_decimal(STDOUT_FILENO, n as u64);
+            io::print_decimal(STDOUT, n as u64);
         }
         Walked::Full => {
-            io::write_all(STDOUT_FILENO, b"full");
+            io::write_all(STDOUT, b"full");
         }
     }
-    io::write_all(STDOUT_FILENO, b"\n");
+    io::write_all(STDOUT, b"\n");
 }
 
 // Pushes so many references to a term.
@@ -103,7 +107,7 @@ fn add_rows(refs: &mut [u32], rows: &mut [u32], head: usize, times: usize) -> us
 }
 
 // The tables.
-#[derive(Drop)]
+#[derive(Clone, Copy)]
 enum Shape {
     // 4,096 rows, each but the first with two references to the row before: without marks a walk would take 2^4095 steps
     Deep,
@@ -118,7 +122,7 @@ enum Shape {
 }
 
 // How many references and rows a table has.
-#[derive(Drop)]
+#[derive(Clone, Copy)]
 struct Size {
     used: usize,
     many: usize,

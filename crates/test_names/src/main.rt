@@ -1,24 +1,30 @@
 // Runs the functions of `names` on standard input. Each field that is a name is spelled and, where it ends in @tok, the part
 // before that; a line `=` prints the names so far in byte order, each with its number and its head code, and starts a new
 // table. Of a long table only some ranks are printed.
+#![tactic(auto)]
+
 ghost use Rattle.std.specs.Prelude.{◌≤◌, ◌<◌, ◌≡◌, length};
 ghost use Rattle.model.specs.Reading.{most_names};
 ghost use Rattle.text.specs.Parts.{Placed};
 ghost use Rattle.names.specs.Table.{Table};
 ghost use Rattle.test_names.specs.Counts.{count_after};
 
-use libc::{STDIN_FILENO, STDOUT_FILENO};
 use names::Spelled;
 use text::{Cursor, FieldStep};
 
+// Standard input and output.
+const STDIN: i32 = 0;
+
+const STDOUT: i32 = 1;
+
 // Writes bytes.
 fn put(bytes: &[u8]) {
-    io::write_all(STDOUT_FILENO, bytes);
+    io::write_all(STDOUT, bytes);
 }
 
 // Writes a number in decimal digits.
 fn put_number(n: usize) {
-    io::print_decimal(STDOUT_FILENO, n as u64);
+    io::print_decimal(STDOUT, n as u64);
 }
 
 // How many names the table has after a spelling.
@@ -145,7 +151,7 @@ fn all_lines(file: &[u8], table: &mut [u32])
 // Reads standard input; more than 65,535 bytes are not looked at.
 fn main() {
     let mut file = io::large_buffer();
-    let n = io::read_full(STDIN_FILENO, &mut file);
+    let n = io::read_full(STDIN, &mut file);
     if model::MOST_BYTES < n {
         return;
     }

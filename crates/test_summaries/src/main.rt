@@ -1,10 +1,14 @@
 // Reads the files of document 01's form on standard input, one after the other, each from its `ask` line on, and prints the
 // summary of each fact from the tables, without its name and its rule. A file that is refused prints `stop,LINE`.
+#![tactic(auto)]
+
 ghost use Rattle.std.specs.Prelude.{◌≤◌, length};
 ghost use Rattle.model.specs.Outcome.{most_bytes};
 
-use libc::STDIN_FILENO;
 use reader::Reading;
+
+// Standard input.
+const STDIN: i32 = 0;
 
 // Reads one file into new tables.
 fn one_file(file: &[u8])
@@ -63,7 +67,7 @@ fn all_files(input: &[u8])
 // Reads standard input; more than 65,535 bytes are not looked at.
 fn main() {
     let mut input = io::large_buffer();
-    let n = io::read_full(STDIN_FILENO, &mut input);
+    let n = io::read_full(STDIN, &mut input);
     if model::MOST_BYTES < n {
         return;
     }

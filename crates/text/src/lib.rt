@@ -1,3 +1,5 @@
+#![tactic(auto)]
+
 ghost use Rattle.std.specs.Prelude.{◌≤◌, ◌+◌, min, ◌≡◌, length};
 ghost use Rattle.std.proofs.Math.Option.{some};
 ghost use Rattle.model.specs.Lists.{part};
@@ -14,21 +16,21 @@ const MOST_LENGTH: usize = 255;
 pub const MOST_NUMBER: u32 = 65535;
 
 // A place in a line: the next field starts at `at`, and the line's bytes end before `end`. Past `end` no field is left.
-#[derive(Drop)]
+#[derive(Clone, Copy)]
 pub struct Cursor {
     pub at: usize,
     pub end: usize,
 }
 
 // How two parts of a file stand to each other: their byte order, and how many bytes they share at their starts.
-#[derive(Drop)]
+#[derive(Clone, Copy)]
 pub struct Comparison {
     pub order: Order,
     pub shared: usize,
 }
 
 // The next field of a line, from `start` up to `end`, and the cursor after it; or the refusal.
-#[derive(Drop)]
+#[derive(Clone, Copy)]
 pub enum FieldStep {
     Part {
         start: usize,
@@ -39,7 +41,7 @@ pub enum FieldStep {
 }
 
 // The number that the next field of a line is, and the cursor after it; or the refusal.
-#[derive(Drop)]
+#[derive(Clone, Copy)]
 pub enum NumberStep {
     Number(u32, Cursor),
     Refused(Refusal),

@@ -1,3 +1,5 @@
+#![tactic(auto)]
+
 ghost use Rattle.std.specs.Prelude.{ℕ, ◌+◌, ◌-◌, ◌≤◌, ◌<◌, ◌≡◌, List, [], ◌∷◌, map, length, get_or};
 ghost use Rattle.model.specs.Lists.{collect, sum, part};
 ghost use Rattle.model.specs.Names.{Name};
@@ -24,7 +26,7 @@ pub const NO_NAME: usize = 2048;
 pub const LAST: usize = 4096;
 
 // What filing disjuncts comes to: how many there are and where their entries end, or that there is no room for them.
-#[derive(Drop)]
+#[derive(Clone, Copy)]
 pub enum Filed {
     Sets(usize, usize),
     Full,
@@ -182,7 +184,7 @@ pub fn file_terms(
 }
 
 // The pattern groups of the `all` under a term's labels: how many there are, and where their references start and end.
-#[derive(Drop)]
+#[derive(Clone, Copy)]
 struct Patterns {
     count: usize,
     start: usize,

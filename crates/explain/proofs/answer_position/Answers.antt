@@ -1,0 +1,54 @@
+-- `explain::answer_position` meets its contract.
+use native.Mathlib.Omega.{arith}
+use mathlib.Core.Logic.{inl, inr}
+use Rattle.front.proofs.Slices.{rest_long, rest_then, zeros_rest, six_lengths}
+use Rattle.front.proofs.Laws.{rest_work}
+use Rattle.explain.proofs.Laws.{moves_rest, position_none, position_told}
+use Rattle.explain.proofs.answer_position.Goals as goal
+
+pub close_file-requires : goal.close_file-requires
+close_file-requires c = c.requires.long
+
+pub refused-requires : goal.refused-requires
+refused-requires c = tt
+
+pub returns-then-position-eq0 : goal.returns-then-position-eq0
+returns-then-position-eq0 c =
+    position_none (inl c.if-position-eq0.true) c.close_file.ensures c.refused.ensures
+
+pub close_file-requires-then-k-position : goal.close_file-requires-then-k-position
+close_file-requires-then-k-position c = c.requires.long
+
+pub refused-requires-then-k-position : goal.refused-requires-then-k-position
+refused-requires-then-k-position c = tt
+
+pub returns-then-k-position : goal.returns-then-k-position
+returns-then-k-position c =
+    position_none (inr c.if-k-position.true) c.close_file-then-k-position.ensures c.refused-then-k-position.ensures
+
+pub overflow_sub-position : goal.overflow_sub-position
+overflow_sub-position c = omega (arith, c.if-position-eq0.false)
+
+pub ask_at-a-requires : goal.ask_at-a-requires
+ask_at-a-requires c =
+    (omega (arith, c.requires.few_asks, c.if-k-position.false, c.if-position-eq0.false), c.requires.long.on_recs)
+
+pub tell-told-requires : goal.tell-told-requires
+tell-told-requires c =
+    record {
+      filled = c.requires.filled;
+      row_room = c.requires.long.on_refs;
+      room = c.requires.long.on_run;
+      asked = rw c.ask_at-a.ensures (omega (arith, c.requires.few_asks, c.if-k-position.false, c.if-position-eq0.false));
+      small = c.requires.small;
+      table = _;
+      read = c.requires.read;
+    }
+
+pub move_rows-requires : goal.move_rows-requires
+move_rows-requires c =
+    (rest_long c.requires.long (rest_work c.tell-told.ensures.row_words c.tell-told.ensures.run_words), c.tell-told.ensures.few)
+
+pub returns : goal.returns
+returns c =
+    position_told c.requires c.if-position-eq0.false c.if-k-position.false c.ask_at-a.ensures c.tell-told.ensures c.move_rows.ensures

@@ -1,0 +1,8 @@
+-- `factfilter::summaries::run` is safe and ends.
+use Rattle.front.proofs.Laws.{opened_file}
+use borrow.Author.Rules.{rules}
+use Rattle.factfilter.proofs.summaries.run.Goals as goal
+
+pub print-requires : goal.print-requires
+print-requires c =
+    ((opened_file c.open_file.ensures c.in-Read.is).filled, c.open_file.ensures.terms _ c.in-Read.is)

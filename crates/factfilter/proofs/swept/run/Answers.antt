@@ -1,0 +1,6 @@
+-- `factfilter::swept::run` is safe and ends.
+use borrow.Author.Rules.{rules}
+use Rattle.factfilter.proofs.swept.run.Goals as goal
+
+pub print-requires : goal.print-requires
+print-requires c = (c.requires, c.sweep_file-a.ensures.room)

@@ -1,0 +1,15 @@
+-- `facts::chain_entries` meets its contract. The loop's invariant: the entries up to `e` are on their chains.
+use Prim.Native.Nat.{◌-◌, ◌%◌, ◌≤◌}
+use mathlib.Core.Path.{ap}
+use lib.ListN.{length-set}
+use Rattle.triggers.specs.Entries.{last_flag}
+use Rattle.facts.specs.Putting.{Chains}
+use Rattle.facts.proofs.Chaining.{chain_start, chain_none, chain_one, chain_end}
+use native.Mathlib.Omega.{arith}
+use Rattle.facts.proofs.chain_entries.Given as goal
+
+abbrev pub invariant-loop-e : goal.invariant-loop-e
+invariant-loop-e l = (l.from ≤ l.e) × (l.e ≤ l.to) × Chains l.initial.names l.initial.lists l.names l.lists l.from l.e l.fact
+
+abbrev pub decreases-loop-e : goal.decreases-loop-e
+decreases-loop-e l = l.to - l.e

@@ -1,0 +1,22 @@
+-- `fields::word_key` meets its contract. The loop's invariant: the key is made of the key so far and the bytes from `i` on.
+use Prim.Native.Nat.{◌≤◌, ◌<◌, ◌-◌}
+use mathlib.Core.Path.{◌≡◌, refl, sym, ◌∙◌}
+use native.Mathlib.Omega.{arith}
+use lib.ListN.{get_or}
+use borrow.Author.Tests.{lt-ltb}
+use Rattle.model.specs.Lists.{all, part}
+use Rattle.text.proofs.Laws.{all_on, all_end}
+use Rattle.fields.specs.Wording.{key_from, is_byte, key_of}
+use Rattle.fields.proofs.Words.{weight, weight_start, weight_room, weight_on, key_on, key_end, key_short, key_long}
+use Rattle.fields.proofs.word_key.Given as goal
+
+abbrev pub invariant-loop-i : goal.invariant-loop-i
+invariant-loop-i l =
+    (l.a ≤ l.i)
+    × (l.i ≤ l.e)
+    × (l.key < weight (l.i - l.a))
+    × (key_of (part l.file l.a l.e) ≡ key_from l.key (part l.file l.i l.e))
+    × (all is_byte (part l.file l.a l.e) ≡ all is_byte (part l.file l.i l.e))
+
+abbrev pub decreases-loop-i : goal.decreases-loop-i
+decreases-loop-i l = l.e - l.i

@@ -1,0 +1,31 @@
+-- `filing::read_hide` meets its contract: by the name that is read, whether a field is left, and the record added.
+use borrow.Author.Rules.{rules}
+use Rattle.model.specs.declared.Refusal.TheVariants as refusal
+use Rattle.fields.proofs.Spelling.{reads_name}
+use Rattle.filing.proofs.Naming.{spelled_standing}
+use Rattle.filing.proofs.Saying.{end_more, one_more, one_not, hide_is}
+use Rattle.filing.proofs.Recording.{begins, name_not, rest_not, hide_line}
+use Rattle.filing.proofs.read_hide.Goals as goal
+
+pub read_name-requires : goal.read_name-requires
+read_name-requires c = (begins c.requires.0, c.requires.1)
+
+pub returns-then-last : goal.returns-then-last
+returns-then-last c =
+    let name = reads_name c.read_name.ensures c.in-Name.is in
+    rest_not _ c.requires.0 name refusal.Form (one_more _ _ (hide_is _ _ _) name.said (end_more _ _ _ c.if-last.true))
+
+pub add_hide-requires : goal.add_hide-requires
+add_hide-requires c =
+    let name = reads_name c.read_name.ensures c.in-Name.is in
+    (spelled_standing c.args.n c.requires.0 name.spelled c.spelled.ensures, c.requires.2)
+
+pub returns-else-last : goal.returns-else-last
+returns-else-last c =
+    let name = reads_name c.read_name.ensures c.in-Name.is in
+    hide_line _ c.requires.0 name c.spelled.ensures c.add_hide.ensures.past
+    c.if-last.false c.add_hide.ensures.«record»
+
+pub returns-in-Refused : goal.returns-in-Refused
+returns-in-Refused c =
+    name_not _ c.requires.0 c.read_name.ensures c.in-Refused.is (one_not _ _ (hide_is _ _ _))

@@ -1,0 +1,26 @@
+-- `filing::read_root` meets its contract: by the query, and the rest of the line.
+use Rattle.fields.proofs.Pushing.{number_read, number_not}
+use Rattle.filing.proofs.Saying.{number_placed, number_below, root_then, root_not}
+use Rattle.filing.proofs.Recording.{line_not, line_said}
+use borrow.Author.Rules.{rules}
+use Rattle.filing.proofs.read_root.Goals as goal
+
+pub number-requires : goal.number-requires
+number-requires c =
+    c.requires.1
+
+pub read_goal-requires : goal.read_goal-requires
+read_goal-requires c = (
+  c.requires.0,
+  number_placed 255 c.requires.1 c.number.ensures c.in-Number.is,
+  c.requires.2,
+  number_below 255 c.requires.1 c.number.ensures c.in-Number.is,
+)
+
+pub returns-in-Number : goal.returns-in-Number
+returns-in-Number c =
+    line_said (root_then _ _ _ (number_read c.requires.1 255 c.number.ensures c.in-Number.is)) c.read_goal.ensures
+
+pub returns-in-Refused : goal.returns-in-Refused
+returns-in-Refused c =
+    line_not _ _ _ _ _ _ _ _ _ (root_not _ _ _ (number_not c.requires.1 255 c.number.ensures c.in-Refused.is))

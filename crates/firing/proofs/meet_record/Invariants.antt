@@ -1,0 +1,16 @@
+-- `firing::meet_record` meets its contract. The loop's invariant: what is left to meet comes to the whole.
+use Prim.Native.Nat.{◌-◌}
+use native.Mathlib.Omega.{arith}
+use mathlib.Core.Path.{ap, ◌∙◌}
+use lib.ListN.{length}
+use Rattle.records.specs.Columns.{macro_at}
+use Rattle.macros.specs.Macros.{opens_at}
+use Rattle.firing.proofs.Marks.{mark_length}
+use Rattle.firing.proofs.Meets.{MetAll, all_start, all_next, all_end, uses_met}
+use Rattle.firing.proofs.meet_record.Given as goal
+
+abbrev pub invariant-loop-j : goal.invariant-loop-j
+invariant-loop-j l = MetAll (λ n. opens_at l.recs l.lists (macro_at l.names n)) l.lists l.initial.run l.a l.e l.round l.run l.j
+
+abbrev pub decreases-loop-j : goal.decreases-loop-j
+decreases-loop-j l = l.e - l.j

@@ -1,0 +1,14 @@
+-- `precedence::put_rows` meets its contract. The loop's invariant: the records whose rows are left.
+use native.Mathlib.Omega.{arith}
+use Prim.Native.Nat.{◌-◌}
+use mathlib.Core.Path.{◌∙◌}
+use Rattle.prune.proofs.Rows.{rows_length_same}
+use Rattle.precedence.proofs.Putting.{DefsTo, defs_start, defs_next, defs_room, defs_end}
+use native.Mathlib.Omega.{arith}
+use Rattle.precedence.proofs.put_rows.Given as goal
+
+abbrev pub invariant-loop-i : goal.invariant-loop-i
+invariant-loop-i l = DefsTo l.names l.recs l.lists l.initial.refs l.initial.run l.k l.refs l.run l.to l.i
+
+abbrev pub decreases-loop-i : goal.decreases-loop-i
+decreases-loop-i l = l.records - l.i

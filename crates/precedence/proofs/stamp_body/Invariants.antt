@@ -1,0 +1,11 @@
+-- `precedence::stamp_body` meets its contract. The loop's invariant: the names that are left to stamp.
+use Prim.Native.Nat.{◌+◌, ◌-◌}
+use Rattle.precedence.proofs.Stamps.{StampTo, stamp_start, stamp_next, stamp_end, uses_fit, use_low}
+use native.Mathlib.Omega.{arith}
+use Rattle.precedence.proofs.stamp_body.Given as goal
+
+abbrev pub invariant-loop-j : goal.invariant-loop-j
+invariant-loop-j l = StampTo l.lists l.initial.refs (l.i + 1) l.a l.e l.refs l.j
+
+abbrev pub decreases-loop-j : goal.decreases-loop-j
+decreases-loop-j l = l.e - l.j

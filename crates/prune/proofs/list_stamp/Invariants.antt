@@ -1,0 +1,12 @@
+-- `prune::list_stamp` meets its contract. The loop's invariant: what is left of the chain.
+use native.Mathlib.Omega.{arith}
+use Rattle.prune.specs.Loops.{stamp_in}
+use Rattle.prune.proofs.Writing.{going_length}
+use Rattle.prune.proofs.Stamps.{ListedTo, chain_start, chain_less, chain_none, chain_one, chain_room, chain_end}
+use Rattle.prune.proofs.list_stamp.Given as goal
+
+abbrev pub invariant-loop-next : goal.invariant-loop-next
+invariant-loop-next l = ListedTo l.names l.recs (stamp_in l.names l.initial.run) l.named l.kind l.stamp l.initial.run l.m l.run l.to l.next
+
+abbrev pub decreases-loop-next : goal.decreases-loop-next
+decreases-loop-next l = l.next

@@ -1,0 +1,24 @@
+-- `reader::read_also` meets its contract: by its number, and whether a field is left.
+use borrow.Author.Rules.{rules}
+use Rattle.reader.proofs.Saying.{also_refused, also_longer, also_asks}
+use Rattle.reader.proofs.read_also.Goals as goal
+
+pub returns-then-last : goal.returns-then-last
+returns-then-last c =
+    also_longer _ c.requires.0 c.number.ensures c.in-Number.is c.if-last.true
+
+pub add_ask-requires : goal.add_ask-requires
+add_ask-requires c =
+    (c.requires.2, c.requires.3)
+
+pub shape_of-recs : goal.shape_of-recs
+shape_of-recs c = c.add_ask.ensures.ask.same.same_length
+
+pub returns-else-last : goal.returns-else-last
+returns-else-last c =
+    also_asks _ c.requires.0 c.number.ensures c.in-Number.is c.if-last.false c.requires.1
+    c.add_ask.ensures.counts c.add_ask.ensures.ask
+
+pub returns-in-Refused : goal.returns-in-Refused
+returns-in-Refused c =
+    also_refused _ c.requires.0 c.number.ensures c.in-Refused.is

@@ -1,0 +1,15 @@
+-- `reasons::put_rows_of` meets its contract. The loop's invariant: the rows of the ranks that are left are still to be put.
+use Prim.Native.Nat.{◌-◌}
+use native.Mathlib.Omega.{arith}
+use borrow.Author.Tests.{not-true, not-false}
+use Rattle.prune.proofs.Picking.{number_in}
+use Rattle.reasons.proofs.Listed.{entries_in}
+use Rattle.prune.proofs.Rows.{RowsTo, rows_start, rows_length_same, rows_end}
+use Rattle.reasons.proofs.Laws.{rank_rows, rows_ranks, rank_passed, rank_room, rank_put, supplier_in}
+use Rattle.reasons.proofs.put_rows_of.Given as goal
+
+abbrev pub invariant-loop-r : goal.invariant-loop-r
+invariant-loop-r l = RowsTo l.initial.refs l.at (rank_rows l.names l.recs l.lists l.run l.i) l.named l.refs l.to l.r
+
+abbrev pub decreases-loop-r : goal.decreases-loop-r
+decreases-loop-r l = l.named - l.r

@@ -1,0 +1,59 @@
+-- `records::add_root` meets its contract.
+use native.Mathlib.Omega.{arith}
+use Rattle.model.specs.Outcome.{working_words}
+use Rattle.words.proofs.Slices.{same_self}
+use Rattle.records.specs.Adding.{full}
+use Rattle.records.proofs.Funs.{row_past, small_row, untouched}
+use Rattle.records.proofs.Uses.{gathered_uses, gathered_over, gathered_past, root_crowded, root_over, root_added}
+use borrow.Author.Rules.{rules}
+use Rattle.records.proofs.add_root.Goals as goal
+
+pub returns-then-k-gt-MOST_NAMES : goal.returns-then-k-gt-MOST_NAMES
+returns-then-k-gt-MOST_NAMES c = record { «record» = full c.if-k-gt-MOST_NAMES.true; past = untouched }
+
+pub returns-then-k-ge-MOST_RECORDS : goal.returns-then-k-ge-MOST_RECORDS
+returns-then-k-ge-MOST_RECORDS c =
+    let (st, known) = c.requires.0 c.if-k-gt-MOST_NAMES.false in
+    record { «record» = root_crowded st _ _ known _ c.if-k-ge-MOST_RECORDS.true; past = untouched }
+
+pub overflow_cast-mark : goal.overflow_cast-mark
+overflow_cast-mark c =
+    let st = (c.requires.0 c.if-k-gt-MOST_NAMES.false).0 in
+    omega (arith, st.few_marks, st.recorded.few, st.recorded.few_entries)
+
+pub gather_term-requires : goal.gather_term-requires
+gather_term-requires c =
+    let st = (c.requires.0 c.if-k-gt-MOST_NAMES.false).0 in
+    (st.tables.term_table, st.tables.name_table.room, c.requires.1, st.fresh, st.recorded.few_uses, omega (arith, st.recorded.lists_room))
+
+pub returns-in_default : goal.returns-in_default
+returns-in_default c =
+    let (st, known) = c.requires.0 c.if-k-gt-MOST_NAMES.false in
+    let slices = c.gather_term.ensures.slices in
+    record {
+      «record» = root_over st _ _ known _ c.if-k-ge-MOST_RECORDS.false
+          (gathered_over st _ c.gather_term.ensures.set slices c.in_default.is);
+      past = gathered_past st _ c.gather_term.ensures.set slices (same_self 0 working_words _);
+    }
+
+pub overflow_add-k : goal.overflow_add-k
+overflow_add-k c =
+    let st = (c.requires.0 c.if-k-gt-MOST_NAMES.false).0 in
+    omega (arith, st.few_marks, st.recorded.few, st.recorded.few_entries)
+
+pub put_record-requires : goal.put_record-requires
+put_record-requires c =
+    let (st, known) = c.requires.0 c.if-k-gt-MOST_NAMES.false in
+    let uses = gathered_uses st _ c.gather_term.ensures.set c.gather_term.ensures.slices c.in-Names.is in (
+      c.if-k-ge-MOST_RECORDS.false,
+      st.recorded.room,
+      small_row _ _ _ _ _ _ _ _ _ _ _ _ st c.with_record-next.ensures st.recorded.few_entries uses.fits (omega arith) c.requires.2
+          (omega (arith, st.tables.name_table.few, known)) (omega (arith, c.requires.1, st.tables.term_table.few_rows)) c.requires.3 (omega arith) (omega arith),
+    )
+
+pub returns : goal.returns
+returns c =
+    let (st, known) = c.requires.0 c.if-k-gt-MOST_NAMES.false in
+    let slices = c.gather_term.ensures.slices in
+    let uses = gathered_uses st _ c.gather_term.ensures.set slices c.in-Names.is in
+    record { «record» = root_added st _ _ known _ c.if-k-ge-MOST_RECORDS.false c.with_record-next.ensures c.put_record.ensures uses; past = gathered_past st _ c.gather_term.ensures.set slices (row_past c.put_record.ensures) }

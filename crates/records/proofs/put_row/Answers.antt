@@ -1,0 +1,19 @@
+-- `records::put_row` meets its contract. The loop's invariant: what is left to write comes to the row.
+use Prim.Native.Nat.{◌-◌, ◌≤◌}
+use mathlib.Core.Path.{◌≡◌, refl, sym, ◌∙◌}
+use lib.ListN.{length, drop}
+use Rattle.records.specs.Writing.{put_row}
+use Rattle.records.proofs.Rows.{put_on, put_end}
+use borrow.Author.Rules.{rules}
+use native.Mathlib.Omega.{arith}
+use Rattle.records.proofs.put_row.Goals as goal
+
+pub loop-c-init : goal.loop-c-init
+loop-c-init c = (refl, refl, omega arith)
+
+pub loop-c-preserved : goal.loop-c-preserved
+loop-c-preserved c =
+    (c.loop-c.invariant.0 ∙ put_on _ _ _ _ c.loop-c-test.true, search rules, omega arith)
+
+pub returns : goal.returns
+returns c = sym (c.loop-c.invariant.0 ∙ put_end _ _ _ _ c.loop-c-test.false)

@@ -1,0 +1,7 @@
+-- `records::with_hide` meets its contract.
+use native.Mathlib.Omega.{arith}
+use borrow.Author.Rules.{rules}
+use Rattle.records.proofs.with_hide.Goals as goal
+
+pub returns : goal.returns
+returns c = rw c.with_record-next.ensures

@@ -1,0 +1,9 @@
+-- `row_printing::print_rows` is safe and ends.
+use Rattle.front.proofs.Laws.{opened_file}
+use borrow.Author.Rules.{rules}
+use Rattle.row_printing.proofs.print_rows.Goals as goal
+
+pub print_named-requires : goal.print_named-requires
+print_named-requires c =
+    let file = opened_file c.open_file.ensures c.in-Read.is in
+    (file.filled.table, c.requires)

@@ -1,0 +1,22 @@
+-- `rules::rule_11` meets its contract: a `true`.
+use Rattle.rules.proofs.Looking.{row_ready}
+use Rattle.rules.proofs.Meaning.{op_found, op_no, true_word}
+use Rattle.rules.proofs.Rules.{rule_11_holds, rule_11_other}
+use Rattle.rules.specs.Choices.{Within, holds_not, chooses}
+use borrow.Author.Tests.{not-false, not-true}
+use mathlib.Core.Path.{◌∙◌, sym}
+use Rattle.rules.proofs.rule_11.Goals as goal
+
+pub is_op-requires : goal.is_op-requires
+is_op-requires c =
+    row_ready c.requires.0.term_table c.requires.2
+
+pub returns-then-not-is_op : goal.returns-then-not-is_op
+unfolding Within
+returns-then-not-is_op c =
+    holds_not (rule_11_other _ _ _ _ (op_no c.requires.0 c.requires.2 true_word (sym c.is_op.ensures ∙ not-true _ c.if-not-is_op.true-raw)))
+
+pub returns : goal.returns
+unfolding Within
+returns c =
+    chooses (rule_11_holds _ _ _ _ (op_found c.requires.0 c.requires.2 true_word (sym c.is_op.ensures ∙ not-false _ c.if-not-is_op.false-raw))) tt

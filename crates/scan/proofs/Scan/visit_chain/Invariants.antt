@@ -1,0 +1,13 @@
+-- `scan::Scan::visit_chain` meets its contract. The loop's invariant: the chain is visited down to an entry.
+use Prim.Native.Nat.{◌-◌}
+use native.Mathlib.Omega.{arith}
+use borrow.Author.Tests.{not-true, not-false}
+use Rattle.scan.specs.Steps.{going}
+use Rattle.scan.proofs.Chaining.{VisitedTo, chain_start, chain_steady, chain_next, chain_skip, chain_less, chain_end}
+use Rattle.scan.proofs.Scan.visit_chain.Given as goal
+
+abbrev pub invariant-loop-next : goal.invariant-loop-next
+invariant-loop-next l = VisitedTo l.names l.recs l.lists l.k l.a (going l.initial.s l.initial.run) l.n (going l.s l.run) l.next
+
+abbrev pub decreases-loop-next : goal.decreases-loop-next
+decreases-loop-next l = l.next

@@ -1,0 +1,14 @@
+-- `sweeping::any_met` meets its contract. The loop's invariant: what is left to look at has the answer.
+use Prim.Native.Nat.{◌-◌, ◌≤◌}
+use native.Mathlib.Omega.{arith}
+use mathlib.Core.Path.{◌≡◌, refl, sym, ◌∙◌}
+use Rattle.model.specs.Lists.{any, part}
+use Rattle.sweeping.specs.Sweeping.{name_met}
+use Rattle.sweeping.proofs.Entries.{none_left, past_none, past_unmet, at_met}
+use Rattle.sweeping.proofs.any_met.Given as goal
+
+abbrev pub invariant-loop-i : goal.invariant-loop-i
+invariant-loop-i l = (l.a ≤ l.i) × (l.i ≤ l.e) × (any (name_met l.run) (part l.lists l.a l.e) ≡ any (name_met l.run) (part l.lists l.i l.e))
+
+abbrev pub decreases-loop-i : goal.decreases-loop-i
+decreases-loop-i l = l.e - l.i

@@ -1,0 +1,15 @@
+-- `terms::group_end` meets its contract. The loop's invariant: the group's words up to `i` and those that follow are its run.
+use Prim.Native.Nat.{◌+◌, ◌-◌, ◌≤◌}
+use native.Mathlib.Omega.{arith}
+use mathlib.Core.Path.{◌≡◌, refl, sym, ◌∙◌}
+use Rattle.terms.specs.Rows.{group_run}
+use Rattle.terms.proofs.Groups.{run_none, run_other, run_more}
+use borrow.Author.Rules.{rules}
+use Rattle.model.specs.Lists.{part}
+use Rattle.terms.proofs.group_end.Given as goal
+
+abbrev pub invariant-loop-i : goal.invariant-loop-i
+invariant-loop-i l = (l.a ≤ l.i) × (l.i ≤ l.e) × (l.a + group_run l.g (part l.refs l.a l.e) ≡ l.i + group_run l.g (part l.refs l.i l.e))
+
+abbrev pub decreases-loop-i : goal.decreases-loop-i
+decreases-loop-i l = l.e - l.i

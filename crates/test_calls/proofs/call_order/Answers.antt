@@ -1,0 +1,28 @@
+-- `test_calls::call_order` is safe and ends.
+use Rattle.printing.proofs.Texts.{counted}
+use borrow.Author.Rules.{rules}
+use Rattle.test_calls.proofs.call_order.Goals as goal
+
+pub slice_bounds-check_order-end-2 : goal.slice_bounds-check_order-end-2
+slice_bounds-check_order-end-2 c = counted _ _ c.requires.lent_0
+
+pub slice_bounds-check_order-end-4 : goal.slice_bounds-check_order-end-4
+slice_bounds-check_order-end-4 c = counted _ _ c.requires.lent_1
+
+pub slice_bounds-check_order-end-6 : goal.slice_bounds-check_order-end-6
+slice_bounds-check_order-end-6 c = counted _ _ c.requires.lent_2
+
+pub slice_bounds-check_order-end-8 : goal.slice_bounds-check_order-end-8
+slice_bounds-check_order-end-8 c = counted _ _ c.requires.lent_3
+
+pub slice_bounds-check_order-end-10 : goal.slice_bounds-check_order-end-10
+slice_bounds-check_order-end-10 c = counted _ _ c.requires.lent_4
+
+pub slice_bounds-check_order-end-12 : goal.slice_bounds-check_order-end-12
+slice_bounds-check_order-end-12 c = counted _ _ c.requires.lent_5
+
+pub check_order-requires : goal.check_order-requires
+check_order-requires c = tt
+
+pub returns : goal.returns
+returns c = tt

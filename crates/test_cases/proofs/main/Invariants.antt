@@ -1,0 +1,14 @@
+-- `test_cases::main` is safe and ends. The loop's invariant: the bytes that are held lie in the window.
+use Prim.Native.Nat.{ℕ, ◌≤◌}
+use mathlib.Core.Path.{◌≡◌, sym}
+use lib.ListN.{length, length-replicate, length-take}
+use Rattle.printing.proofs.Texts.{counted}
+use borrow.Author.Rules.{rules}
+use native.Mathlib.Omega.{arith}
+use Rattle.test_cases.proofs.main.Given as goal
+
+abbrev pub invariant-loop-left : goal.invariant-loop-left
+invariant-loop-left l = (length l.window ≡ 262144) × (l.from ≤ l.to) × (l.to ≤ 262144)
+
+abbrev pub decreases-loop-left : goal.decreases-loop-left
+decreases-loop-left l = l.left

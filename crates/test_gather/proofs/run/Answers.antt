@@ -1,0 +1,15 @@
+-- `test_gather::run` is safe and ends.
+use native.Mathlib.Omega.{arith}
+use Rattle.test_gather.proofs.Laws.{zeros_blank, set_blank}
+use borrow.Author.Rules.{rules}
+use Rattle.test_gather.proofs.run.Goals as goal
+
+pub build-size-requires : goal.build-size-requires
+build-size-requires c = ((zeros_blank 0 16384 (omega arith)).long, zeros_blank 12288 16384 (omega arith))
+
+pub show_list-requires : goal.show_list-requires
+show_list-requires c = (set_blank 6149 c.args.code (omega arith) (zeros_blank 8192 16384 (omega arith)), c.build-size.ensures.0)
+
+pub show_term-requires : goal.show_term-requires
+show_term-requires c =
+    (set_blank 6149 c.args.code (omega arith) (zeros_blank 8192 16384 (omega arith)), c.build-size.ensures.0, c.build-size.ensures.1, c.requires)

@@ -1,0 +1,15 @@
+-- `test_names::all_lines` is safe and ends. The loop's invariant: the names so far are a table.
+use Prim.Native.Nat.{◌-◌}
+use mathlib.Core.Path.{◌≡◌, refl}
+use lib.ListN.{length}
+use Rattle.text.proofs.Laws.{mark_from, mark_to}
+use Rattle.names.specs.Table.{Table}
+use borrow.Author.Rules.{rules}
+use native.Mathlib.Omega.{arith}
+use Rattle.test_names.proofs.all_lines.Given as goal
+
+abbrev pub invariant-loop-from : goal.invariant-loop-from
+invariant-loop-from l = (length l.table ≡ length l.initial.table) × Table l.file l.table l.named
+
+abbrev pub decreases-loop-from : goal.decreases-loop-from
+decreases-loop-from l = length l.file - l.from

@@ -1,0 +1,28 @@
+-- `test_summaries::all_files` is safe and ends. The loop's invariant: the position is in the input.
+use Prim.Native.Nat.{◌-◌, ◌≤◌}
+use mathlib.Core.Logic.{⊎_elim}
+use lib.ListN.{length}
+use Rattle.text.proofs.Laws.{mark_from}
+use Rattle.test_summaries.proofs.Laws.{part_short}
+use borrow.Author.Rules.{rules}
+use native.Mathlib.Omega.{arith}
+use Rattle.test_summaries.proofs.all_files.Goals as goal
+use Rattle.test_summaries.proofs.all_files.Goals.{then-end-input, else-end-input}
+
+pub find-end-requires : goal.find-end-requires
+find-end-requires c = (omega arith, omega arith)
+
+pub slice_bounds-one_file-count : goal.slice_bounds-one_file-count
+slice_bounds-one_file-count c =
+    let start = mark_from _ _ _ _ _ c.find-end.ensures in
+    elim c.if-end-input.branch [ then-end-input w ↦ omega arith | else-end-input w ↦ omega arith ]
+
+pub slice_bounds-one_file-start : goal.slice_bounds-one_file-start
+slice_bounds-one_file-start c =
+    let start = mark_from _ _ _ _ _ c.find-end.ensures in
+    elim c.if-end-input.branch [ then-end-input w ↦ omega arith | else-end-input w ↦ omega arith ]
+
+pub loop-from-smaller : goal.loop-from-smaller
+loop-from-smaller c =
+    let start = mark_from _ _ _ _ _ c.find-end.ensures in
+    elim c.if-end-input.branch [ then-end-input w ↦ omega arith | else-end-input w ↦ omega arith ]

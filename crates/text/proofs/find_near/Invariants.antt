@@ -1,0 +1,13 @@
+-- `text::find_near` meets its contract. The loop's invariant: the first mark from the start is the first mark from `j` on.
+use Prim.Native.Nat.{◌≤◌, ◌-◌}
+use mathlib.Core.Path.{◌≡◌, refl, sym, ◌∙◌}
+use native.Mathlib.Omega.{arith}
+use Rattle.text.specs.Parts.{mark_at}
+use Rattle.text.proofs.Laws.{mark_here, mark_on, mark_end}
+use Rattle.text.proofs.find_near.Given as goal
+
+abbrev pub invariant-loop-j : goal.invariant-loop-j
+invariant-loop-j l = (l.j ≤ l.end) × (mark_at l.mark l.s l.at l.end ≡ mark_at l.mark l.s l.j l.end)
+
+abbrev pub decreases-loop-j : goal.decreases-loop-j
+decreases-loop-j l = l.end - l.j

@@ -1,0 +1,90 @@
+-- `triggers::triggers_of_term` meets its contract. The loop's invariant: the term is an `all`, the groups before `g` are filed, and their references end at `a`.
+use Prim.Native.Nat.{◌+◌, ◌-◌, ◌≤◌}
+use native.Mathlib.Omega.{arith}
+use mathlib.Core.Path.{refl}
+use mathlib.Core.List.{map}
+use Rattle.model.specs.Lists.{fold_left}
+use Rattle.model.specs.Summaries.{group_names}
+use Rattle.terms.specs.Rows.{row_start, row_end, groups_of_words, terms_of, bare_of}
+use Rattle.terms.proofs.Groups.{Before}
+use Rattle.gather.proofs.Walking.{rows_marked}
+use Rattle.triggers.specs.declared.Filed.TheVariants as filed
+use Rattle.triggers.specs.Filings.{filing, file_list}
+use Rattle.triggers.proofs.Marked.{All, patterns, all_there}
+use Rattle.triggers.proofs.Filing.{Comes, opened_then, comes_ends, comes_of, posts}
+use Rattle.triggers.proofs.Grouping.{patterns_asks, groups_asks, groups_first, groups_next, group_asks, groups_then, groups_full, groups_done, groups_again, groups_start, groups_none}
+use Rattle.triggers.proofs.triggers_of_term.Goals as goal
+
+pub pattern_groups-p-requires : goal.pattern_groups-p-requires
+pattern_groups-p-requires c =
+    patterns_asks c.requires.0 c.args.t c.requires.2
+
+pub returns-then-groups-eq0 : goal.returns-then-groups-eq0
+returns-then-groups-eq0 c =
+    let both = posts (groups_none c.args.t c.requires.0 c.requires.2 c.pattern_groups-p.ensures.0 c.if-groups-eq0.true c.requires.1) in
+    record { sets = both.0; slices = both.1.0; words = both.1.1 }
+
+pub shape_of-rows-then-groups-eq0 : goal.shape_of-rows-then-groups-eq0
+shape_of-rows-then-groups-eq0 c = refl
+
+pub loop-g-init : goal.loop-g-init
+loop-g-init c =
+    let all = all_there c.requires.0 c.requires.2 c.pattern_groups-p.ensures.0 c.if-groups-eq0.false refl c.pattern_groups-p.ensures.2 in
+    (all, omega arith, groups_first c.requires.0 all c.pattern_groups-p.ensures.1, groups_start _ _ _ c.requires.1)
+
+pub group_end-b-requires : goal.group_end-b-requires
+group_end-b-requires c =
+    groups_asks c.requires.0 c.loop-g.invariant.0 c.loop-g.invariant.2
+
+pub overflow_sub-end : goal.overflow_sub-end
+overflow_sub-end c = (comes_ends c.loop-g.invariant.3).0
+
+pub overflow_add-mark : goal.overflow_add-mark
+overflow_add-mark c =
+    let ends = comes_ends c.loop-g.invariant.3 in
+    omega (arith, c.requires.1.few_marks, ends.0, ends.1)
+
+pub file_list-requires : goal.file_list-requires
+file_list-requires c =
+    let asks = group_asks c.requires.0 c.loop-g.invariant.0 c.loop-g.invariant.2 c.group_end-b.ensures in
+    (rows_marked c.loop-g.invariant.3.filled.rows_same c.requires.0, opened_then c.requires.1 c.loop-g.invariant.3, asks.0, asks.1, asks.2)
+
+pub returns-in_default : goal.returns-in_default
+returns-in_default c =
+    let both = posts (groups_full c.requires.0 c.loop-g.invariant.0 c.requires.2 c.loop-g-test.true c.in_default.is
+    (groups_then c.requires.0 c.loop-g.invariant.0 c.loop-g.invariant.2 c.group_end-b.ensures c.requires.1.high
+    c.loop-g.invariant.3 (comes_of _ (c.file_list.ensures.sets, (c.file_list.ensures.slices, c.file_list.ensures.words))))) in
+    record { sets = both.0; slices = both.1.0; words = both.1.1 }
+
+pub shape_of-names-in_default : goal.shape_of-names-in_default
+shape_of-names-in_default c = (returns-in_default c).slices.names_same.same_length
+
+pub shape_of-rows-in_default : goal.shape_of-rows-in_default
+shape_of-rows-in_default c = (returns-in_default c).slices.rows_same.same_length
+
+pub shape_of-lists-in_default : goal.shape_of-lists-in_default
+shape_of-lists-in_default c = (returns-in_default c).slices.lists_same.same_length
+
+pub loop-g-preserved : goal.loop-g-preserved
+loop-g-preserved c = (
+  c.loop-g.invariant.0,
+  omega arith,
+  groups_next c.requires.0 c.loop-g.invariant.0 c.loop-g.invariant.2 c.group_end-b.ensures,
+  groups_again c.loop-g.g c.in-Sets.is (comes_of _ (c.file_list.ensures.sets, (c.file_list.ensures.slices, c.file_list.ensures.words)))
+      (groups_then c.requires.0 c.loop-g.invariant.0 c.loop-g.invariant.2 c.group_end-b.ensures c.requires.1.high
+      c.loop-g.invariant.3 (comes_of _ (c.file_list.ensures.sets, (c.file_list.ensures.slices, c.file_list.ensures.words)))),
+)
+
+pub returns : goal.returns
+returns c =
+    let both = posts (groups_done c.requires.0 c.loop-g.invariant.0 c.requires.2 c.loop-g.invariant.1 c.loop-g-test.false c.loop-g.invariant.3) in
+    record { sets = both.0; slices = both.1.0; words = both.1.1 }
+
+pub shape_of-names : goal.shape_of-names
+shape_of-names c = (returns c).slices.names_same.same_length
+
+pub shape_of-rows : goal.shape_of-rows
+shape_of-rows c = (returns c).slices.rows_same.same_length
+
+pub shape_of-lists : goal.shape_of-lists
+shape_of-lists c = (returns c).slices.lists_same.same_length

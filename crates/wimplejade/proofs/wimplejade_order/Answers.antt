@@ -1,0 +1,6 @@
+-- `wimplejade::wimplejade_order` meets its contract.
+use Rattle.order.proofs.Laws.{called}
+use Rattle.wimplejade.proofs.wimplejade_order.Goals as goal
+
+pub returns : goal.returns
+returns c = called c.find_rows-told.ensures c.write_rows.ensures c.clear_rows.ensures

@@ -1,0 +1,13 @@
+-- `words::copy` meets its contract. The loop's invariant: the words up to `i` are copied.
+use Prim.Native.Nat.{◌-◌}
+use native.Mathlib.Omega.{arith}
+use mathlib.Core.Path.{refl}
+use borrow.Author.Rules.{rules}
+use Rattle.words.proofs.Slices.{Copying, copying_start, copying_next, copying_end}
+use Rattle.words.proofs.copy.Given as goal
+
+abbrev pub invariant-loop-i : goal.invariant-loop-i
+invariant-loop-i l = Copying l.source l.from l.at l.n l.initial.target l.target l.i
+
+abbrev pub decreases-loop-i : goal.decreases-loop-i
+decreases-loop-i l = l.n - l.i
