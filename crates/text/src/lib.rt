@@ -235,7 +235,8 @@ fn valued_number(s: &[u8], at: usize, stop: usize, end: usize, n: u32, limit: u3
     if stop == at {
         return NumberStep::Refused(Refusal::Number);
     }
-    if 1 < stop - at {
+    let several = 1 < stop - at;
+    if several {
         if s[at] == b'0' {
             return NumberStep::Refused(Refusal::Number);
         }

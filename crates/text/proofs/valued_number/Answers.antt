@@ -3,7 +3,7 @@ use mathlib.Core.Logic.{⊎_elim}
 use native.Mathlib.Omega.{arith}
 use Rattle.text.proofs.Laws.{number_empty, number_leading, number_part, most_none, most_good, most_over}
 use Rattle.text.proofs.valued_number.Goals as goal
-use Rattle.text.proofs.valued_number.Goals.{then-stop-at-gt1+else-s-at-eq48, else-stop-at-gt1}
+use Rattle.text.proofs.valued_number.Goals.{then-several+else-s-at-eq48, else-several}
 
 pub returns-then-stop-at : goal.returns-then-stop-at
 returns-then-stop-at c = most_none _ _ _ (number_empty c.args.s.now c.args.at c.args.stop (omega arith))
@@ -17,7 +17,7 @@ pub returns-then-n-limit : goal.returns-then-n-limit
 returns-then-n-limit c =
     let pre = c.requires in
     let number = number_part _ _ _ _ (omega arith) pre.1
-    (λ zero. elim c.if-stop-at-gt1.branch [ then-stop-at-gt1+else-s-at-eq48 w ↦ absurd (w.if-s-at-eq48.false zero) | else-stop-at-gt1 w ↦ w.if-stop-at-gt1.false ])
+    (λ zero. elim c.if-several.branch [ then-several+else-s-at-eq48 w ↦ absurd (w.if-s-at-eq48.false zero) | else-several w ↦ w.if-several.false ])
     pre.3
     in
     most_good _ _ _ _ number c.if-n-limit.true
@@ -26,7 +26,7 @@ pub returns : goal.returns
 returns c =
     let pre = c.requires in
     let number = number_part _ _ _ _ (omega arith) pre.1
-    (λ zero. elim c.if-stop-at-gt1.branch [ then-stop-at-gt1+else-s-at-eq48 w ↦ absurd (w.if-s-at-eq48.false zero) | else-stop-at-gt1 w ↦ w.if-stop-at-gt1.false ])
+    (λ zero. elim c.if-several.branch [ then-several+else-s-at-eq48 w ↦ absurd (w.if-s-at-eq48.false zero) | else-several w ↦ w.if-several.false ])
     pre.3
     in
     most_over _ _ _ _ number c.if-n-limit.false
