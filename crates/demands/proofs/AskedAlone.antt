@@ -12,7 +12,7 @@ use lib.ListN.{length, get_or, length-append}
 use Rattle.model.specs.Lists.{any, all, sum, collect, fold_left, holds, is_nil, last}
 use Rattle.model.specs.Lines.{Line, lines, Field, fields}
 use Rattle.model.specs.Summaries.{exclude_names}
-use Rattle.model.specs.Reading.{ok, Head, ask, ask2, also, most_groups, Content, head, term, assume, fun, def, retain, root, content, Ask, State, start, Reading, read, refused_at, in_head, in_asks}
+use Rattle.model.specs.Reading.{ok, Head, ask, ask2, also, most_groups, Content, head, term, assume, fun, def, retain, root, Ask, State, start, Reading, read, refused_at, in_head, in_asks}
 use Rattle.model.specs.Reading.{place, of_form, may_stand, is_position, fixed_count, parse, with_query, head_asks, is_grouped, hidden_by, heads, nodes, spelled, trimmed, limits, summarize_decl}
 use Rattle.model.specs.Reading.{root_of, add_line, repeats, read_line, read_lines}
 use Rattle.model.specs.Outcome.{Position, position, filtered}

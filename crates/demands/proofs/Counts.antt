@@ -8,7 +8,7 @@ use lib.ListN.{length, length-append}
 use Rattle.model.specs.Lists.{keep, count, sum, collect, fold_left}
 use Rattle.model.specs.Names.{Name}
 use Rattle.model.specs.Lines.{Line, fields}
-use Rattle.model.specs.Terms.{Node, Term, add_term, references}
+use Rattle.model.specs.Terms.{Node, Term, add_term}
 use Rattle.model.specs.Summaries.{exclude_names, Fact, entries, summarize_kind}
 use Rattle.model.specs.Reading.{Content, head, term, assume, fun, def, retain, root, ok, Decl, Summary, sum_assume, sum_definefun, sum_declfun, sum_retain, State, start, read, entries_of, uses_of}
 use Rattle.model.specs.Reading.{head_asks, hidden_by, heads, nodes, spelled, trimmed, summarize_decl, root_of, excluded, parse, add_line, read_lines}

@@ -1,7 +1,7 @@
 -- The names on the lines of the kept lists of an ask, as printed, are those of the records that the lists are made of.
 use Prim.Native.Nat.{ℕ}
 use mathlib.Core.Path.{◌≡◌, ◌∙◌, ap}
-use mathlib.Core.Logic.{◌⊎◌, ⊎_elim}
+use mathlib.Core.Logic.{⊎_elim}
 use mathlib.Core.List.Memᴰ
 use mathlib.Core.List.{List, map, Memᴰ}
 use Rattle.model.specs.Names.{Name}

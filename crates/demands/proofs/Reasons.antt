@@ -1,6 +1,6 @@
 -- Change 2: the rows are exactly those with a reason, one for each reached fact and listed name met by the end of its round, in
 -- order, no more than a table holds; and the chains of suppliers end at roots and ambient roots.
-use Prim.Native.Nat.{ℕ, zero, suc, ◌+◌, ◌≤◌, ◌<◌, max}
+use Prim.Native.Nat.{ℕ, zero, suc, ◌≤◌, ◌<◌, max}
 use native.Mathlib.Omega.{arith}
 use mathlib.Core.Path.{◌≡◌, refl, sym, ◌∙◌, ap, subst}
 use mathlib.Core.Logic.{◌⊎◌, inl, inr, ⊎_elim}

@@ -1,25 +1,24 @@
 -- Change 10: the sweep reaches and meets what the rounds do, its passes are few, and the answer tells them.
 use Prim.Native.Nat.{ℕ, ◌≤◌}
 use native.Mathlib.Omega.{arith}
-use mathlib.Core.Path.{◌≡◌, refl, sym, ◌∙◌, ap}
+use mathlib.Core.Path.{◌≡◌, refl, ◌∙◌, ap}
 use mathlib.Core.List.{List, [], map}
 use lib.ListN.{length, get_or}
 use Rattle.model.specs.Reading.{Ask, Summary, Root, State}
 use Rattle.model.specs.Rounds.{facts, macros, retainable, first_scanned, run}
 use Rattle.model.specs.Outcome.{Lent, Front, stopped, opened, front, Position, Outcome, refusal_at, lists, padded, outcome}
-use Rattle.model.specs.Sweep.{Sweep, sweep_start, sweep, passes_of, passes_told, swept, sweep_answer}
+use Rattle.model.specs.Sweep.{sweep_start, sweep, passes_of, passes_told, swept, sweep_answer}
 use Rattle.model.specs.declared.Refusal.{Refusal}
 use Rattle.laws.proofs.PassLaws.{sweep_ends, sweep_bound, sweep_some}
 use Rattle.demands.specs.LinesRead.{LinesRead, records_for, At}
 use Rattle.demands.specs.WellFormed.{WellFormed}
-use Rattle.demands.specs.Sweep.{sweep_of, SweepIsRun, PassesExact, PassesBound, PassesSome, PassesAt, SweepTells}
+use Rattle.demands.specs.Sweep.{sweep_of, SweepIsRun, PassesExact, PassesBound, PassesSome, SweepTells}
 use Rattle.demands.proofs.Facts.{names_distinct}
 use Rattle.demands.proofs.Settled.{Settled, settled_reached, settled_met}
 use Rattle.demands.proofs.SweepLaws.{swept_start, sweep_settles}
 use Rattle.demands.proofs.Stretches.{run_settled}
 use Rattle.demands.proofs.Background.{well_for}
 use Rattle.demands.proofs.Moved.{map_length}
-use Rattle.demands.proofs.Queries.{at_map}
 use Rattle.demands.proofs.Asks.{accepted_asks}
 use Rattle.demands.proofs.Demand1.{file_opened, list_given}
 use Rattle.demands.proofs.Sixteen.{padded_length, padded_at, padded_past}

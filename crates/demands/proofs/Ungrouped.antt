@@ -2,7 +2,7 @@
 use Prim.Native.Nat.{ℕ, ◌+◌, ◌≤◌, ◌<◌}
 use native.Mathlib.Omega.{arith}
 use mathlib.Core.Path.{◌≡◌, refl, sym, ◌∙◌, ap, subst}
-use mathlib.Core.Logic.{◌⊎◌, ⊎_elim, ◌≢◌}
+use mathlib.Core.Logic.{⊎_elim, ◌≢◌}
 use mathlib.Core.Bool.{Bool, true, false, true≢false, not, ◌&&◌, ◌||◌, beq, or-true}
 use mathlib.Core.List.{List, [], ◌∷◌, ◌++◌, map, map-map, map-id, map-append, append-nil, cons-ne-nil, Memᴰ}
 use mathlib.Core.Option.{some, some-injective}
@@ -11,7 +11,7 @@ use lib.ListN.{length, get_or}
 use Rattle.model.specs.Lists.{any, all, sum, collect, holds, is_nil, last}
 use Rattle.model.specs.Names.{Name, bytes, by_byte, order, is_same, same}
 use Rattle.model.specs.Lines.{Line, lines, Field, fields}
-use Rattle.model.specs.Terms.{Term, references}
+use Rattle.model.specs.Terms.{Term}
 use Rattle.model.specs.Summaries.{exclude_names, Fact, summarize_assumption}
 use Rattle.model.specs.Reading.{Result, ok, need, name_field, number_field, term_field, op_words, word, kinds, next, rest, end, groups, quantifier, Head, ask, ask2, also, hide, Content, head, term}
 use Rattle.model.specs.Reading.{assume, fun, def, retain, root, most_query, most_options, most_group, most_groups, group_field, content, Ask, Summary, sum_assume, sum_definefun, sum_declfun}

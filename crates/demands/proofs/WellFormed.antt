@@ -10,7 +10,7 @@ use Rattle.model.specs.Lists.{collect, fold_left}
 use Rattle.model.specs.Lines.{fields}
 use Rattle.model.specs.Names.{Name, mem}
 use Rattle.model.specs.Terms.{Node, Term, add_term}
-use Rattle.model.specs.Summaries.{exclude_names, free_top_level_names, at, summarize_assumption}
+use Rattle.model.specs.Summaries.{exclude_names, free_top_level_names, summarize_assumption}
 use Rattle.model.specs.Reading.{Content, head, term, assume, fun, def, retain, root, most_group, Summary, Root, State, start, nodes, taken_by, summarize_decl, root_of, excluded, add_line, repeats, read, read_file}
 use Rattle.model.specs.Rounds.{facts, definitions}
 use Rattle.model.proofs.ListLaws.{any_intro, collect_append, fold_left_case}

@@ -1,3 +1,5 @@
+#![tactic(auto)]
+
 // Why a file or a call is refused. The number of each in documents 01 and 02 is `refusal_number` of specs/Outcome.antt.
 #[derive(Clone, Copy)]
 pub enum Refusal {

@@ -195,7 +195,8 @@ fn list_rows(
         (six w0.new w1.new w2.new w3.new w4.new w5.new) result }
 {
     let count = put_rows(w0, w3, w4, w1, w5, k);
-    if room < count {
+    let is_short = room < count;
+    if is_short {
         front::close_file(w0, w1, w2, w3, w4, w5);
         return refused(Refusal::Room, count as u32);
     }

@@ -1,7 +1,6 @@
 -- `additions::add_label` meets its contract.
 use native.Mathlib.Omega.{arith}
 use Rattle.additions.proofs.Lines.{under_low, adds_label}
-use borrow.Author.Rules.{rules}
 use Rattle.additions.proofs.add_label.Goals as goal
 
 pub add_row-requires : goal.add_row-requires

@@ -4,7 +4,6 @@ use Rattle.additions.proofs.Laws.{added_in, added_full}
 use mathlib.Core.Path.{sym}
 use native.Mathlib.Omega.{arith}
 use lib.ListN.{length-set}
-use borrow.Author.Rules.{rules}
 use Rattle.additions.proofs.add_row.Goals as goal
 
 pub returns-then-many-ge-MOST_TERMS : goal.returns-then-many-ge-MOST_TERMS

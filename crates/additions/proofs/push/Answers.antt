@@ -1,7 +1,6 @@
 -- `additions::push` meets its contract: the test tells full references.
 use Rattle.additions.proofs.Laws.{pushed_in, pushed_full, answer_in, answer_full}
 use mathlib.Core.Path.{sym}
-use borrow.Author.Rules.{rules}
 use Rattle.additions.proofs.push.Goals as goal
 
 pub returns-then-used-ge-MOST_REFERENCES : goal.returns-then-used-ge-MOST_REFERENCES

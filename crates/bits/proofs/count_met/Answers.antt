@@ -1,7 +1,6 @@
 -- `bits::count_met` meets its contract. Assumes nothing.
 use native.Mathlib.Omega.{arith}
 use mathlib.Core.Path.{◌∙◌}
-use borrow.Author.Rules.{rules}
 use Rattle.bits.proofs.Marking.{clear_unmarked, all_counted}
 use Rattle.bits.proofs.count_met.Goals as goal
 

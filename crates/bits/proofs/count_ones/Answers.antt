@@ -1,10 +1,9 @@
 -- `bits::count_ones` meets its contract. The loop's invariant: the total is the ones of the words passed. Assumes nothing.
-use mathlib.Core.Path.{◌≡◌, sym, ap, ◌∙◌}
-use Prim.Native.Nat.{ℕ, ◌+◌, ◌*◌, ◌-◌, ◌≤◌}
+use mathlib.Core.Path.{sym, ap, ◌∙◌}
+use Prim.Native.Nat.{ℕ, ◌+◌}
 use native.Mathlib.Omega.{arith}
 use lib.Count.{ones, ones-le}
-use lib.ListN.{get_or, take, drop}
-use Rattle.bits.specs.Bits.{bits_of, ones_of}
+use lib.ListN.{get_or}
 use Rattle.bits.proofs.Laws.{ones_next, no_ones, ones_end}
 use Rattle.bits.proofs.count_ones.Goals as goal
 

@@ -1,9 +1,6 @@
 -- `bits::mark_bits` meets its contract. The loop's invariant: the bits of the words passed are marked. Assumes nothing.
-use mathlib.Core.Path.{◌≡◌, sym, ◌∙◌, subst}
-use Prim.Native.Nat.{ℕ, ◌-◌, ◌≤◌}
-use native.Mathlib.Omega.{arith}
+use Prim.Native.Nat.{◌-◌, ◌≤◌}
 use Rattle.bits.specs.Bits.{Marked}
-use Rattle.bits.proofs.Marking.{none_marked, next_marked, next_unmarked}
 use Rattle.bits.proofs.mark_bits.Given as goal
 
 abbrev pub invariant-loop-n : goal.invariant-loop-n

@@ -2,7 +2,6 @@
 -- Assumes nothing.
 use Prim.Native.Nat.{◌+◌, ◌/◌}
 use Rattle.bits.proofs.Laws.{set_fits, set_from, kept_from}
-use borrow.Author.Rules.{rules}
 use Rattle.bits.proofs.set_bit.Goals as goal
 
 pub overflow_add-words : goal.overflow_add-words

@@ -1,6 +1,5 @@
 -- `fields::ask_stands` meets its contract.
 use mathlib.Core.Path.{sym, ◌∙◌}
-use borrow.Author.Rules.{rules}
 use borrow.Author.Tests.{not-true, not-false}
 use Rattle.fields.proofs.Words.{form_first, form_grouped, form_plain, ask_by, ask_not}
 use Rattle.fields.proofs.ask_stands.Goals as goal

@@ -1,6 +1,5 @@
 -- `fields::counted` meets its contract.
 use Rattle.fields.proofs.Words.{count_free, count_fixed}
-use borrow.Author.Rules.{rules}
 use Rattle.fields.proofs.counted.Goals as goal
 
 pub returns-then-fixed-eq0 : goal.returns-then-fixed-eq0

@@ -2,7 +2,6 @@
 use mathlib.Core.Path.{sym, ap, ◌∙◌}
 use Rattle.model.specs.Reading.{fixed_count}
 use Rattle.fields.specs.Wording.{ask_line_kind, fixed_of, count_of}
-use borrow.Author.Rules.{rules}
 use Rattle.fields.proofs.fixed_count.Goals as goal
 
 pub returns-then-grouped : goal.returns-then-grouped

@@ -1,6 +1,5 @@
 -- `fields::in_asks` meets its contract.
 use Rattle.fields.proofs.Words.{asks_past, asks_there}
-use borrow.Author.Rules.{rules}
 use Rattle.fields.proofs.in_asks.Goals as goal
 
 pub returns-then-k-ne0 : goal.returns-then-k-ne0

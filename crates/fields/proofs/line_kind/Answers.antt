@@ -1,7 +1,6 @@
 -- `fields::line_kind` meets its contract.
 use mathlib.Core.Path.{sym, ◌∙◌}
 use Rattle.fields.proofs.Words.{kind_there, kind_over, kind_not}
-use borrow.Author.Rules.{rules}
 use Rattle.fields.proofs.line_kind.Goals as goal
 
 pub returns-then-too_many : goal.returns-then-too_many

@@ -2,7 +2,6 @@
 use mathlib.Core.Path.{sym, ap, ◌∙◌}
 use Rattle.fields.specs.Wording.{stands}
 use Rattle.fields.proofs.Words.{stands_ask, stands_also, stands_also_not, stands_hide_first, stands_hide, stands_term, stands_record, stands_none}
-use borrow.Author.Rules.{rules}
 use Rattle.fields.proofs.may_stand.Goals as goal
 
 pub returns-then-in_asks : goal.returns-then-in_asks

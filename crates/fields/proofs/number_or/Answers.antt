@@ -1,6 +1,5 @@
 -- `fields::number_or` meets its contract.
 use Rattle.fields.specs.Wording.{number_or}
-use borrow.Author.Rules.{rules}
 use Rattle.fields.proofs.number_or.Goals as goal
 
 pub returns-then-stands : goal.returns-then-stands

@@ -1,14 +1,9 @@
 -- `fields::push_groups` meets its contract. The loop's invariant: what is left of the run is the run from the cursor and the group on.
-use Prim.Native.Nat.{◌-◌, ◌≤◌}
-use mathlib.Core.Path.{◌≡◌, sym, ◌∙◌}
-use Rattle.text.specs.Parts.{fields_left}
+use mathlib.Core.Path.{sym, ◌∙◌}
 use Rattle.text.proofs.Laws.{number_next}
-use Rattle.model.specs.Reading.{most_references}
-use Rattle.words.specs.Slices.{SameBut}
 use Rattle.words.proofs.Slices.{same_self, same_then}
-use Rattle.fields.specs.Pushing.{push_many, push_groups, Ahead, most_number}
+use Rattle.fields.specs.Pushing.{most_number}
 use Rattle.fields.proofs.Pushing.{number_read, number_not, run_at, run_not, pushes_not, pushes_at, ahead_none, ahead_then, ahead_field, pushable_then, pushable_field, groups_first, groups_on, groups_none}
-use borrow.Author.Rules.{rules}
 use native.Mathlib.Omega.{arith}
 use Rattle.fields.proofs.push_groups.Goals as goal
 

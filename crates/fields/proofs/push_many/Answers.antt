@@ -1,10 +1,6 @@
 -- `fields::push_many` meets its contract. The loop's invariant: what is left of the run is the run from the cursor on.
-use mathlib.Core.Path.{◌≡◌, refl, ◌∙◌}
-use Rattle.text.specs.Parts.{fields_left}
-use Rattle.model.specs.Reading.{most_references}
-use Rattle.words.specs.Slices.{SameBut}
+use mathlib.Core.Path.{refl, ◌∙◌}
 use Rattle.words.proofs.Slices.{same_self, same_then}
-use Rattle.fields.specs.Pushing.{push_many, Ahead}
 use Rattle.fields.proofs.Pushing.{run_at, run_not, pushes_not, pushes_at, ahead_none, ahead_then, pushable_then, many_on, many_none}
 use native.Mathlib.Omega.{arith}
 use Rattle.fields.proofs.push_many.Goals as goal

@@ -1,12 +1,9 @@
 -- `fields::push_many` meets its contract. The loop's invariant: what is left of the run is the run from the cursor on.
-use mathlib.Core.Path.{◌≡◌, refl, ◌∙◌}
+use mathlib.Core.Path.{◌≡◌}
 use Rattle.text.specs.Parts.{fields_left}
 use Rattle.model.specs.Reading.{most_references}
 use Rattle.words.specs.Slices.{SameBut}
-use Rattle.words.proofs.Slices.{same_self, same_then}
 use Rattle.fields.specs.Pushing.{push_many, Ahead}
-use Rattle.fields.proofs.Pushing.{run_at, run_not, pushes_not, pushes_at, ahead_none, ahead_then, pushable_then, many_on, many_none}
-use native.Mathlib.Omega.{arith}
 use Rattle.fields.proofs.push_many.Given as goal
 
 abbrev pub invariant-loop-left : goal.invariant-loop-left

@@ -1,9 +1,7 @@
 -- `fields::spell_rest` meets its contract. The loop's invariant: `SpellingOn`.
 use Prim.Native.Nat.{◌+◌, ◌-◌}
-use mathlib.Core.Path.{◌∙◌}
 use Rattle.text.specs.Parts.{fields_left}
-use Rattle.fields.proofs.Spelling.{reads_name, SpellingOn, on_first, on_next, on_not, on_last}
-use native.Mathlib.Omega.{arith}
+use Rattle.fields.proofs.Spelling.{SpellingOn}
 use Rattle.fields.proofs.spell_rest.Given as goal
 
 abbrev pub invariant-loop-c : goal.invariant-loop-c

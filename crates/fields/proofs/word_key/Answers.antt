@@ -1,13 +1,12 @@
 -- `fields::word_key` meets its contract. The loop's invariant: the key is made of the key so far and the bytes from `i` on.
-use Prim.Native.Nat.{◌≤◌, ◌<◌, ◌-◌}
-use mathlib.Core.Path.{◌≡◌, refl, sym, ◌∙◌}
+use Prim.Native.Nat.{◌<◌}
+use mathlib.Core.Path.{refl, sym, ◌∙◌}
 use native.Mathlib.Omega.{arith}
 use lib.ListN.{get_or}
 use borrow.Author.Tests.{lt-ltb}
-use Rattle.model.specs.Lists.{all, part}
 use Rattle.text.proofs.Laws.{all_on, all_end}
-use Rattle.fields.specs.Wording.{key_from, is_byte, key_of}
-use Rattle.fields.proofs.Words.{weight, weight_start, weight_room, weight_on, key_on, key_end, key_short, key_long}
+use Rattle.fields.specs.Wording.{is_byte, key_of}
+use Rattle.fields.proofs.Words.{weight_start, weight_room, weight_on, key_on, key_end, key_short, key_long}
 use Rattle.fields.proofs.word_key.Goals as goal
 
 pub returns-then-e-a-gt-LONGEST_WORD : goal.returns-then-e-a-gt-LONGEST_WORD

@@ -10,14 +10,14 @@ overflow_cast-total c = omega (arith, c.requires.0)
 pub refused-requires : goal.refused-requires
 refused-requires c = tt
 
-pub returns-then-out-total : goal.returns-then-out-total
-returns-then-out-total c =
-    settle_8 c.if-out-total.true c.refused.ensures
+pub returns-then-is_short : goal.returns-then-is_short
+returns-then-is_short c =
+    settle_8 c.if-is_short.true c.refused.ensures
 
 pub copy-requires : goal.copy-requires
 copy-requires c =
-    (omega (arith, c.requires.0, c.requires.1), omega (arith, c.if-out-total.false))
+    (omega (arith, c.requires.0, c.requires.1), omega (arith, c.if-is_short.false))
 
 pub returns : goal.returns
 returns c =
-    settle_list (omega (arith, c.requires.0, c.requires.1)) c.if-out-total.false c.copy.ensures
+    settle_list (omega (arith, c.requires.0, c.requires.1)) c.if-is_short.false c.copy.ensures

@@ -1,8 +1,8 @@
 -- `gather::walk_term` and `gather::walk_list` meet their contracts.
 use native.Mathlib.Omega.{arith}
-use Prim.Native.Nat.{ℕ, ◌+◌, ◌-◌, ◌*◌, ◌≤◌, ◌<◌}
+use Prim.Native.Nat.{◌<◌}
 use mathlib.Core.Path.{sym, ◌∙◌}
-use Rattle.gather.proofs.Walking.{top, list_falls, term_falls, walks_there, walks_none, walks_next, walks_term, walks_head_full, walks_marked, ready_then, heads_of, references_of, in_table_at, walks_is, steps_is, walks_stop, walks_end, walks_names}
+use Rattle.gather.proofs.Walking.{list_falls, term_falls, walks_there, walks_none, walks_next, walks_term, walks_head_full, walks_marked, ready_then, heads_of, references_of, in_table_at, walks_is, steps_is, walks_stop, walks_end, walks_names}
 use Rattle.gather.proofs.Rendering.{follows_is, follow_there, follow_head_full, follow_list_full, follow_marked, follow_nil, follow_next, follow_stop, follow_end}
 use Rattle.gather.proofs.+walk_list_walk_term.Goals as goal
 

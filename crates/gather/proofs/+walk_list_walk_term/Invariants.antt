@@ -1,6 +1,6 @@
 -- A term's measure is twice its number and one, a list's twice the greatest of its terms and one more. The loop's invariant: the names of
 -- the terms up to `i` are added, and the slices are those of the walk up to there.
-use Prim.Native.Nat.{ℕ, ◌+◌, ◌-◌, ◌*◌, ◌≤◌, ◌<◌}
+use Prim.Native.Nat.{◌+◌, ◌-◌, ◌*◌, ◌≤◌}
 use Rattle.gather.specs.declared.Walked.TheVariants as walks
 use Rattle.gather.specs.Walks.{Among, Walks, list_part, Follows}
 use Rattle.gather.proofs.Walking.{top}

@@ -4,7 +4,6 @@ use Rattle.gather.proofs.Rendering.{follows_start}
 use Rattle.gather.specs.Visits.{visit_list}
 use Rattle.gather.specs.Walks.{list_part}
 use native.Mathlib.Omega.{arith}
-use borrow.Author.Rules.{rules}
 use Rattle.gather.proofs.gather_list.Goals as goal
 
 pub walk_list-requires : goal.walk_list-requires

@@ -4,7 +4,6 @@ use Rattle.gather.proofs.Rendering.{follows_start}
 use Rattle.gather.specs.Visits.{visit_term}
 use Rattle.gather.specs.Walks.{term_part}
 use native.Mathlib.Omega.{arith}
-use borrow.Author.Rules.{rules}
 use Rattle.gather.proofs.gather_term.Goals as goal
 
 pub walk_term-requires : goal.walk_term-requires

@@ -1,12 +1,9 @@
 -- `names::code_in` meets its contract. The loop's invariant: the head code is the code from `code` on among the known names from
 -- `i` on.
-use Prim.Native.Nat.{◌+◌, ◌-◌}
+use Prim.Native.Nat.{◌+◌}
 use mathlib.Core.Path.{sym, ◌∙◌}
 use native.Mathlib.Omega.{arith}
-use lib.ListN.{length}
-use Rattle.model.specs.Lists.{part}
-use Rattle.names.specs.Known.{head_code}
-use Rattle.names.proofs.Codes.{Left, left_start, left_next, left_end}
+use Rattle.names.proofs.Codes.{left_start, left_next, left_end}
 use Rattle.names.proofs.code_in.Goals as goal
 
 pub loop-i-init : goal.loop-i-init

@@ -1,12 +1,10 @@
 -- `names::code_in` meets its contract. The loop's invariant: the head code is the code from `code` on among the known names from
 -- `i` on.
-use Prim.Native.Nat.{◌+◌, ◌-◌}
-use mathlib.Core.Path.{sym, ◌∙◌}
-use native.Mathlib.Omega.{arith}
+use Prim.Native.Nat.{◌-◌}
 use lib.ListN.{length}
 use Rattle.model.specs.Lists.{part}
 use Rattle.names.specs.Known.{head_code}
-use Rattle.names.proofs.Codes.{Left, left_start, left_next, left_end}
+use Rattle.names.proofs.Codes.{Left}
 use Rattle.names.proofs.code_in.Given as goal
 
 abbrev pub invariant-loop-i : goal.invariant-loop-i

@@ -2,7 +2,6 @@
 use mathlib.Core.Path.{◌∙◌}
 use native.Mathlib.Omega.{arith}
 use Rattle.names.proofs.Laws.{shared_row, comparison_row}
-use borrow.Author.Rules.{rules}
 use Rattle.names.proofs.compare.Goals as goal
 
 pub compare_from-requires : goal.compare_from-requires

@@ -4,7 +4,6 @@ use native.Mathlib.Omega.{arith}
 use lib.ListN.{length-set}
 use Rattle.names.proofs.Entering.{entered_row}
 use Rattle.names.proofs.Spelling.{missing_new, missing_full}
-use borrow.Author.Rules.{rules}
 use Rattle.names.proofs.enter.Goals as goal
 
 pub returns-then-named-ge-MOST_NAMES : goal.returns-then-named-ge-MOST_NAMES

@@ -2,7 +2,6 @@
 use Prim.Native.Nat.{◌+◌}
 use mathlib.Core.Path.{ap}
 use lib.ListN.{set}
-use borrow.Author.Rules.{rules}
 use Rattle.names.specs.Known.{excluded_mark}
 use Rattle.names.specs.Table.{code_column, excluded_at}
 use Rattle.names.proofs.exclude.Goals as goal

@@ -1,6 +1,5 @@
 -- `names::head_word` meets its contract.
 use native.Mathlib.Omega.{arith}
-use borrow.Author.Rules.{rules}
 use Rattle.names.proofs.Coded.{word_none, word_marked, word_other}
 use Rattle.names.proofs.head_word.Goals as goal
 

@@ -1,7 +1,6 @@
 -- `names::is_excluded` meets its contract.
 use mathlib.Core.Path.{ap}
 use lib.Dec.{leb}
-use borrow.Author.Rules.{rules}
 use Rattle.names.specs.Known.{excluded_mark}
 use Rattle.names.specs.Table.{is_excluded}
 use Rattle.names.proofs.is_excluded.Goals as goal

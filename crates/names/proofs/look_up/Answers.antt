@@ -4,9 +4,8 @@ use Prim.Native.Nat.{◌+◌, ◌-◌, ◌/◌, ◌<◌}
 use mathlib.Core.Path.{sym, ap, ◌∙◌}
 use Rattle.model.proofs.SetLaws.{order_same}
 use Rattle.names.specs.declared.Found.TheVariants.{At}
-use Rattle.names.proofs.Laws.{met_order, met_shared, Searching, search_start, search_shares, search_above, search_below, look_up_at, look_up_missing}
+use Rattle.names.proofs.Laws.{met_order, met_shared, search_start, search_shares, search_above, search_below, look_up_at, look_up_missing}
 use native.Mathlib.Omega.{arith}
-use Rattle.model.specs.Lists.{part}
 use Rattle.names.proofs.look_up.Goals as goal
 
 pub loop-low-init : goal.loop-low-init

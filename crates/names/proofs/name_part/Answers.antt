@@ -2,7 +2,6 @@
 use mathlib.Core.Path.{refl}
 use Rattle.names.proofs.Laws.{name_row, part_row}
 use native.Mathlib.Omega.{arith}
-use borrow.Author.Rules.{rules}
 use Rattle.names.proofs.name_part.Goals as goal
 
 pub overflow_add-result : goal.overflow_add-result

@@ -1,7 +1,6 @@
 -- `names::put_index` meets its contract. The loop's invariant: the ranks from `i` on have moved up.
 use lib.ListN.{length-set}
-use Prim.Native.Nat.{◌≤◌}
-use Rattle.names.proofs.Entering.{Shifted, shift_start, shift_on, shift_end}
+use Rattle.names.proofs.Entering.{shift_start, shift_on, shift_end}
 use native.Mathlib.Omega.{arith}
 use Rattle.names.proofs.put_index.Goals as goal
 

@@ -3,7 +3,6 @@ use mathlib.Core.Path.{refl}
 use Rattle.names.specs.Table.{spell_answer, spell_table}
 use Rattle.names.proofs.Laws.{missing_within}
 use Rattle.names.proofs.Spelling.{spell_by}
-use borrow.Author.Rules.{rules}
 use Rattle.names.proofs.spell.Goals as goal
 
 pub look_up-requires : goal.look_up-requires

@@ -1,8 +1,5 @@
 -- `options::admits` meets its contract. The loop's invariant: the place `i` of what is left is the group's place of the groups.
-use native.Mathlib.Omega.{arith}
-use borrow.Author.Rules.{rules}
-use mathlib.Core.Path.{◌≡◌, refl, ◌∙◌}
-use Rattle.laws.specs.Places.{option_at}
+use mathlib.Core.Path.{refl, ◌∙◌}
 use Rattle.options.proofs.OptionsOf.{halved, admits_is}
 use Rattle.options.proofs.admits.Goals as goal
 

@@ -1,9 +1,6 @@
 -- `options::admits` meets its contract. The loop's invariant: the place `i` of what is left is the group's place of the groups.
-use native.Mathlib.Omega.{arith}
-use borrow.Author.Rules.{rules}
-use mathlib.Core.Path.{◌≡◌, refl, ◌∙◌}
+use mathlib.Core.Path.{◌≡◌}
 use Rattle.laws.specs.Places.{option_at}
-use Rattle.options.proofs.OptionsOf.{halved, admits_is}
 use Rattle.options.proofs.admits.Given as goal
 
 abbrev pub invariant-loop-i : goal.invariant-loop-i

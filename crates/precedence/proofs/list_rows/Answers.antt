@@ -19,9 +19,9 @@ overflow_cast-count c =
 pub refused-requires : goal.refused-requires
 refused-requires c = tt
 
-pub returns-then-room-count : goal.returns-then-room-count
-returns-then-room-count c =
-    short_listed c.put_rows-count.ensures c.requires.few c.if-room-count.true c.close_file.ensures c.refused.ensures
+pub returns-then-is_short : goal.returns-then-is_short
+returns-then-is_short c =
+    short_listed c.put_rows-count.ensures c.requires.few c.if-is_short.true c.close_file.ensures c.refused.ensures
 
 pub close_tables-requires : goal.close_tables-requires
 close_tables-requires c =
@@ -46,4 +46,4 @@ clear-requires c =
 
 pub returns : goal.returns
 returns c =
-    rows_listed c.put_rows-count.ensures c.requires.few c.close_tables.ensures c.clear.ensures (late_small c.args.w0.now c.args.w3.now c.args.w4.now c.args.k) c.if-room-count.false
+    rows_listed c.put_rows-count.ensures c.requires.few c.close_tables.ensures c.clear.ensures (late_small c.args.w0.now c.args.w3.now c.args.w4.now c.args.k) c.if-is_short.false

@@ -1,6 +1,5 @@
 -- `rules::count` meets its contract: the difference of two words.
 use Rattle.rules.specs.Views.{row_count}
-use borrow.Author.Rules.{rules}
 use native.Mathlib.Omega.{arith}
 use Rattle.rules.proofs.count.Goals as goal
 

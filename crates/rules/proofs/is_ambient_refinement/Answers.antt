@@ -3,7 +3,6 @@ use Rattle.model.specs.Names.{bytes}
 use Rattle.rules.proofs.Looking.{head_ready, row_ready}
 use Rattle.rules.proofs.Meaning.{head_found, head_no, head_within, is_call_law, squash}
 use Rattle.rules.proofs.Rules.{refinement_head, refinement_none, refinement_squash}
-use borrow.Author.Rules.{rules}
 use borrow.Author.Tests.{not-false, not-true}
 use mathlib.Core.Path.{◌∙◌, sym}
 use Rattle.rules.proofs.is_ambient_refinement.Goals as goal

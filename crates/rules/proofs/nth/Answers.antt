@@ -1,10 +1,8 @@
 -- `rules::nth` meets its contract: the word at a row's start and i more.
 use Prim.Native.Nat.{◌%◌, ◌+◌, ℕ}
 use Rattle.rules.specs.Views.{row_argument}
-use borrow.Author.Rules.{rules}
 use lib.ListN.{get_or}
 use mathlib.Core.Path.{◌∙◌, ap}
-use native.Mathlib.Omega.{arith}
 use Rattle.rules.proofs.nth.Goals as goal
 
 pub returns : goal.returns

@@ -3,7 +3,6 @@ use Rattle.model.specs.Names.{bytes}
 use Rattle.rules.proofs.Meaning.{iff_word, op_two_found, op_two_no, op_within}
 use Rattle.rules.proofs.Rules.{rule_1_holds, rule_1_name, rule_1_other}
 use Rattle.rules.specs.Choices.{Within, holds_not, chooses}
-use borrow.Author.Rules.{rules}
 use borrow.Author.Tests.{not-false, not-true}
 use Rattle.rules.proofs.rule_1.Goals as goal
 

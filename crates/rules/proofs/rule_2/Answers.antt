@@ -2,7 +2,6 @@
 use Rattle.model.specs.Names.{bytes}
 use Rattle.rules.proofs.Rules.{rule_2_holds, rule_2_name}
 use Rattle.rules.specs.Choices.{Within, holds_not, chooses}
-use borrow.Author.Rules.{rules}
 use borrow.Author.Tests.{not-false, not-true}
 use Rattle.rules.proofs.rule_2.Goals as goal
 

@@ -3,7 +3,6 @@ use Rattle.model.specs.Names.{bytes}
 use Rattle.rules.proofs.Meaning.{eq_word, op_two_found, op_two_no, op_within}
 use Rattle.rules.proofs.Rules.{rule_8_holds, rule_8_name, rule_8_other}
 use Rattle.rules.specs.Choices.{Within, holds_not, chooses}
-use borrow.Author.Rules.{rules}
 use borrow.Author.Tests.{not-false, not-true}
 use Rattle.rules.proofs.rule_8.Goals as goal
 

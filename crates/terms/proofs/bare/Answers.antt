@@ -3,7 +3,6 @@ use Rattle.terms.specs.Rows.{row_kind}
 use Rattle.terms.proofs.Laws.{bare_label, bare_own}
 use Prim.Native.Nat.{◌%◌}
 use mathlib.Core.Path.{sym, ap, ◌∙◌}
-use borrow.Author.Rules.{rules}
 use Rattle.terms.proofs.bare.Goals as goal
 
 pub returns-then-at-eq-LABEL : goal.returns-then-at-eq-LABEL

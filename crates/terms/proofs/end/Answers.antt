@@ -1,7 +1,6 @@
 -- `terms::end` meets its contract: the test tells the last row.
 use Rattle.terms.proofs.Laws.{end_next, end_last}
 use mathlib.Core.Path.{sym, ◌∙◌}
-use borrow.Author.Rules.{rules}
 use Rattle.terms.proofs.end.Goals as goal
 
 pub returns-then-t-many : goal.returns-then-t-many

@@ -1,7 +1,6 @@
 -- `terms::group_count` meets its contract: the test tells an `all`.
 use Rattle.terms.proofs.Laws.{groups_all, groups_other}
 use mathlib.Core.Path.{sym, ◌∙◌}
-use borrow.Author.Rules.{rules}
 use Rattle.terms.proofs.group_count.Goals as goal
 
 pub returns-then-kind-ne-ALL : goal.returns-then-kind-ne-ALL

@@ -1,10 +1,7 @@
 -- `terms::group_end` meets its contract. The loop's invariant: the group's words up to `i` and those that follow are its run.
 use Prim.Native.Nat.{◌+◌, ◌-◌, ◌≤◌}
-use native.Mathlib.Omega.{arith}
-use mathlib.Core.Path.{◌≡◌, refl, sym, ◌∙◌}
+use mathlib.Core.Path.{◌≡◌}
 use Rattle.terms.specs.Rows.{group_run}
-use Rattle.terms.proofs.Groups.{run_none, run_other, run_more}
-use borrow.Author.Rules.{rules}
 use Rattle.model.specs.Lists.{part}
 use Rattle.terms.proofs.group_end.Given as goal
 

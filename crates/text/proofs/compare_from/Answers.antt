@@ -1,9 +1,6 @@
 -- `text::compare_from` meets its contract. The loop's invariant: the parts share at least `i` bytes.
-use Prim.Native.Nat.{◌≤◌, ◌-◌}
 use mathlib.Core.Path.{sym}
 use native.Mathlib.Omega.{arith}
-use Rattle.model.specs.Lists.{part}
-use Rattle.text.specs.Parts.{shared}
 use Rattle.text.proofs.Laws.{shared_within, compared_shorter, compared_longer, compared_same, compared_less, compared_more, shared_on}
 use Rattle.text.proofs.compare_from.Goals as goal
 

@@ -1,11 +1,6 @@
 -- `text::count_fields` meets its contract. The loop's invariant: the count, and the fields from `i` on, are one more than the fields of the part.
-use Prim.Native.Nat.{◌≤◌, ◌+◌, ◌-◌}
-use mathlib.Core.Path.{◌≡◌, refl}
-use mathlib.Core.Logic.{⊎_elim}
+use mathlib.Core.Path.{refl}
 use native.Mathlib.Omega.{arith}
-use lib.ListN.{length}
-use Rattle.model.specs.Lists.{part}
-use Rattle.model.specs.Lines.{fields}
 use Rattle.text.proofs.Laws.{count_comma, count_on, count_end}
 use Rattle.text.proofs.count_fields.Goals as goal
 use Rattle.text.proofs.count_fields.Goals.{then-s-i-eq44, else-s-i-eq44}

@@ -1,6 +1,5 @@
 -- `text::ends_with` meets its contract.
 use mathlib.Core.Path.{sym, ◌∙◌}
-use native.Mathlib.Omega.{arith}
 use Rattle.text.proofs.Laws.{ends_short, ends_part}
 use Rattle.text.proofs.ends_with.Goals as goal
 

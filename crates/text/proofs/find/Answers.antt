@@ -1,8 +1,6 @@
 -- `text::find` meets its contract. The loop's invariant: the first mark from the start is the first mark from `i` on.
-use Prim.Native.Nat.{◌≤◌, ◌-◌}
-use mathlib.Core.Path.{◌≡◌, refl, sym, ◌∙◌}
+use mathlib.Core.Path.{refl, sym, ◌∙◌}
 use native.Mathlib.Omega.{arith}
-use Rattle.text.specs.Parts.{mark_at}
 use Rattle.text.proofs.Laws.{mark_here, mark_on, mark_step}
 use Rattle.text.proofs.find.Goals as goal
 

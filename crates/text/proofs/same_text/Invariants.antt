@@ -1,11 +1,9 @@
 -- `text::same_text` meets its contract. The loop's invariant: the part is the word if what is left of it from `i` on is what is left of the word.
 use Prim.Native.Nat.{◌≤◌, ◌+◌, ◌-◌}
-use mathlib.Core.Path.{◌≡◌, refl, sym, ◌∙◌}
-use native.Mathlib.Omega.{arith}
+use mathlib.Core.Path.{◌≡◌}
 use lib.ListN.{length}
 use Rattle.model.specs.Lists.{part}
 use Rattle.model.specs.Names.{same}
-use Rattle.text.proofs.Laws.{same_start, same_sized, same_differ, same_on, same_end}
 use Rattle.text.proofs.same_text.Given as goal
 
 abbrev pub invariant-loop-i : goal.invariant-loop-i

@@ -1,5 +1,4 @@
 -- `text::valued_number` meets its contract.
-use mathlib.Core.Logic.{⊎_elim}
 use native.Mathlib.Omega.{arith}
 use Rattle.text.proofs.Laws.{number_empty, number_leading, number_part, most_none, most_good, most_over}
 use Rattle.text.proofs.valued_number.Goals as goal

@@ -1,6 +1,5 @@
 -- `triggers::close` meets its contract.
 use native.Mathlib.Omega.{arith}
-use borrow.Author.Rules.{rules}
 use Rattle.triggers.proofs.Filing.{close_last, close_empty, close_over}
 use Rattle.triggers.proofs.close.Goals as goal
 

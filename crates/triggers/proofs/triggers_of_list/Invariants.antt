@@ -1,14 +1,11 @@
 -- `triggers::triggers_of_list` meets its contract. The loop's invariant: the triggers of the terms before `i` are filed.
 use Prim.Native.Nat.{◌-◌, ◌≤◌}
-use native.Mathlib.Omega.{arith}
-use mathlib.Core.Path.{refl}
 use Rattle.model.specs.Lists.{part}
 use Rattle.terms.specs.Rows.{terms_of_words}
-use Rattle.gather.proofs.Walking.{rows_marked}
 use Rattle.triggers.specs.declared.Filed.TheVariants as filed
 use Rattle.triggers.specs.Filings.{filing, file_parts}
-use Rattle.triggers.proofs.Filing.{Comes, opened_then, comes_of, comes_is, comes_ends, posts}
-use Rattle.triggers.proofs.Grouping.{term_low, count_asks, list_sets, list_count, list_start, list_full, list_next, list_pass, list_done}
+use Rattle.triggers.proofs.Filing.{Comes}
+use Rattle.triggers.proofs.Grouping.{list_sets, list_count}
 use Rattle.triggers.proofs.triggers_of_list.Given as goal
 
 abbrev pub invariant-loop-i : goal.invariant-loop-i

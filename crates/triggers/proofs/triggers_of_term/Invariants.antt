@@ -1,18 +1,14 @@
 -- `triggers::triggers_of_term` meets its contract. The loop's invariant: the term is an `all`, the groups before `g` are filed, and their references end at `a`.
 use Prim.Native.Nat.{◌+◌, ◌-◌, ◌≤◌}
-use native.Mathlib.Omega.{arith}
-use mathlib.Core.Path.{refl}
 use mathlib.Core.List.{map}
 use Rattle.model.specs.Lists.{fold_left}
 use Rattle.model.specs.Summaries.{group_names}
 use Rattle.terms.specs.Rows.{row_start, row_end, groups_of_words, terms_of, bare_of}
 use Rattle.terms.proofs.Groups.{Before}
-use Rattle.gather.proofs.Walking.{rows_marked}
 use Rattle.triggers.specs.declared.Filed.TheVariants as filed
 use Rattle.triggers.specs.Filings.{filing, file_list}
-use Rattle.triggers.proofs.Marked.{All, patterns, all_there}
-use Rattle.triggers.proofs.Filing.{Comes, opened_then, comes_ends, comes_of, posts}
-use Rattle.triggers.proofs.Grouping.{patterns_asks, groups_asks, groups_first, groups_next, group_asks, groups_then, groups_full, groups_done, groups_again, groups_start, groups_none}
+use Rattle.triggers.proofs.Marked.{All, patterns}
+use Rattle.triggers.proofs.Filing.{Comes}
 use Rattle.triggers.proofs.triggers_of_term.Given as goal
 
 abbrev pub invariant-loop-g : goal.invariant-loop-g

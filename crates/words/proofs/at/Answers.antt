@@ -1,6 +1,5 @@
 -- `words::at` meets its contract.
 use native.Mathlib.Omega.{arith}
-use borrow.Author.Rules.{rules}
 use Rattle.words.proofs.at.Goals as goal
 
 pub overflow_cast-result : goal.overflow_cast-result

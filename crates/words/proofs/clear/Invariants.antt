@@ -1,8 +1,6 @@
 -- `words::clear` meets its contract. The loop's invariant: the column is zero up to `i`, and nothing else changed.
 use Prim.Native.Nat.{◌-◌}
-use native.Mathlib.Omega.{arith}
-use borrow.Author.Rules.{rules}
-use Rattle.words.proofs.Slices.{Zeroing, zeroing_start, zeroing_block, zeroing_end}
+use Rattle.words.proofs.Slices.{Zeroing}
 use Rattle.words.proofs.clear.Given as goal
 
 abbrev pub invariant-loop-i : goal.invariant-loop-i

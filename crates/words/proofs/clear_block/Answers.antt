@@ -1,8 +1,6 @@
 -- `words::clear_block` meets its contract. The loop's invariant: the words are zero up to `i`, and nothing else changed.
-use Prim.Native.Nat.{◌-◌}
 use native.Mathlib.Omega.{arith}
-use borrow.Author.Rules.{rules}
-use Rattle.words.proofs.Slices.{Zeroing, zeroing_start, zeroing_next, zeroing_end}
+use Rattle.words.proofs.Slices.{zeroing_start, zeroing_next, zeroing_end}
 use Rattle.words.proofs.clear_block.Goals as goal
 
 pub loop-i-init : goal.loop-i-init

@@ -1,9 +1,7 @@
 -- `words::copy` meets its contract. The loop's invariant: the words up to `i` are copied.
-use Prim.Native.Nat.{◌-◌}
 use native.Mathlib.Omega.{arith}
 use mathlib.Core.Path.{refl}
-use borrow.Author.Rules.{rules}
-use Rattle.words.proofs.Slices.{Copying, copying_start, copying_next, copying_end}
+use Rattle.words.proofs.Slices.{copying_start, copying_next, copying_end}
 use Rattle.words.proofs.copy.Goals as goal
 
 pub loop-i-init : goal.loop-i-init

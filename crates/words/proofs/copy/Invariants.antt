@@ -1,9 +1,6 @@
 -- `words::copy` meets its contract. The loop's invariant: the words up to `i` are copied.
 use Prim.Native.Nat.{◌-◌}
-use native.Mathlib.Omega.{arith}
-use mathlib.Core.Path.{refl}
-use borrow.Author.Rules.{rules}
-use Rattle.words.proofs.Slices.{Copying, copying_start, copying_next, copying_end}
+use Rattle.words.proofs.Slices.{Copying}
 use Rattle.words.proofs.copy.Given as goal
 
 abbrev pub invariant-loop-i : goal.invariant-loop-i

@@ -1,10 +1,7 @@
 -- `text::Cursor::number` meets its contract. The loop's invariant: the value is made of the value so far and the bytes from `i` on.
 use Prim.Native.Nat.{◌≤◌, ◌-◌}
 use Rattle.text.specs.Parts.{valued}
-use mathlib.Core.Path.{refl, sym, ◌∙◌}
-use mathlib.Core.Option.{none}
-use Rattle.text.proofs.Laws.{field_none, number_refused, number_read, number_none, Walk, walk_start, walk_on, walk_comma, walk_end, walk_out, valued_on, valued_bad, valued_past, valued_end, digit_low, digit_high, digit_good}
-use native.Mathlib.Omega.{arith}
+use Rattle.text.proofs.Laws.{Walk}
 use Rattle.text.proofs.Cursor.number.Given as goal
 
 abbrev pub invariant-loop-i : goal.invariant-loop-i
