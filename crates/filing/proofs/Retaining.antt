@@ -3,7 +3,6 @@ use Prim.Native.Nat.{ℕ, ◌≤◌, ◌<◌}
 use mathlib.Core.Path.{◌≡◌, refl, sym, ap, ◌∙◌}
 use mathlib.Core.Bool.{Bool}
 use mathlib.Core.List.{List, [], append-nil}
-use Rattle.model.specs.Summaries.{exclude_names}
 use Rattle.model.specs.Lists.{collect, fold_left}
 use Rattle.model.specs.Names.{Name}
 use Rattle.model.specs.Lines.{Field}

@@ -6,7 +6,7 @@ use mathlib.Core.Logic.{◌↔◌, ◌⊎◌, inl, inr}
 use mathlib.Core.List.{List, [], ◌∷◌}
 use lib.ListN.{length, take, drop}
 use Rattle.model.specs.Reading.{State}
-use Rattle.model.specs.Outcome.{refusal_number, front}
+use Rattle.model.specs.Outcome.{refusal_number}
 use Rattle.model.specs.Precedence.{late_rows}
 use Rattle.model.specs.Checking.{Checked, refusal_at, listed_rows, ordered, table_after}
 use Rattle.model.specs.declared.Refusal.{Refusal}

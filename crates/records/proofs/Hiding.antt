@@ -4,10 +4,8 @@ use native.Mathlib.Omega.{arith}
 use mathlib.Core.Path.{◌≡◌, refl, sym, ◌∙◌}
 use mathlib.Core.Bool.{false}
 use mathlib.Core.List.{List}
-use lib.ListN.{length}
 use Rattle.model.specs.Summaries.{exclude_names}
 use Rattle.model.specs.Lists.{any, sum, collect, fold_left}
-use Rattle.model.specs.Names.{Name}
 use Rattle.model.specs.Reading.{head, hide, heads, head_asks, is_grouped, hidden_by, nodes, spelled, trimmed, summarize_decl, root_of, taken_by, repeats, most_names, most_records}
 use Rattle.model.specs.declared.Counts.{Counts}
 use Rattle.model.specs.declared.Refusal.TheVariants as refusal
@@ -15,7 +13,6 @@ use Rattle.model.specs.declared.Step.TheVariants as step
 use Rattle.model.specs.Outcome.{working_words}
 use Rattle.names.specs.Table.{name_of, excluded_at}
 use Rattle.names.proofs.Excluded.{excluded_but, excluded_table, excludes_one}
-use Rattle.words.specs.Slices.{SameBut}
 use Rattle.words.proofs.Slices.{same_self, same_wider}
 use Rattle.gather.specs.Sets.{Fresh}
 use Rattle.records.specs.Columns.{hide_kind, taken_column, first_column}

@@ -9,7 +9,7 @@ use Rattle.model.specs.Lists.{any, collect}
 use Rattle.model.specs.Names.{Name, mem}
 use Rattle.model.specs.Summaries.{Fact}
 use Rattle.model.specs.Reading.{Root}
-use Rattle.model.specs.Rounds.{facts, first_run, run, round_met, round_of, first_scanned}
+use Rattle.model.specs.Rounds.{facts, first_run, round_met, round_of, first_scanned}
 use Rattle.model.specs.declared.Asked.{Asked}
 use Rattle.model.specs.declared.Counts.{Counts}
 use Rattle.model.proofs.ListLaws.{T_false, collect_intro, collect_elim, map_intro, map_elim}

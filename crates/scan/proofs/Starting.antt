@@ -11,7 +11,6 @@ use lib.Dec.{T, T_not, ltb}
 use lib.ListN.{length, get_or, set, length-set}
 use lib.Seq.{get_or-set_same, get_or-set_other}
 use borrow.Author.Tests.{ltb-true}
-use Rattle.model.specs.Lists.{count}
 use Rattle.model.specs.Reading.{most_records}
 use Rattle.model.proofs.ListLaws.{true_T, false_T}
 use Rattle.model.proofs.PartLaws.{part_nil, part_snoc, part_agree}

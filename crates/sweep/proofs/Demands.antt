@@ -11,7 +11,6 @@ use Rattle.model.specs.Outcome.{Lent, Position, Outcome, refusal_at, lists, outc
 use Rattle.model.specs.Working.{sizes}
 use Rattle.model.specs.declared.Answer.{Answer}
 use Rattle.model.specs.declared.Swept.{Swept}
-use Rattle.model.specs.declared.Verdict.TheVariants as verdict
 use Rattle.demands.specs.LinesRead.{LinesRead, At}
 use Rattle.demands.specs.Sweep.{AsFirst, PassesAt}
 use Rattle.demands.proofs.Sweep.{sweep_is_run, passes_exact, sweep_tells}

@@ -38,6 +38,7 @@ fn any_met(lists: &[u32], run: &[u32], a: usize, e: usize) -> bool
 
 // Whether a record is added: a retainable fact that the ask admits, not reached, and it fires on the names met now.
 // `firing::fires` alone would let an empty disjunct fire.
+#[tactic(auto, using(crate::proofs::Entries::not_taken, crate::proofs::Entries::not_retained, crate::proofs::Entries::is_there, crate::proofs::Entries::none_met, crate::proofs::Entries::by_firing))]
 fn adds(recs: &[u32], lists: &[u32], run: &[u32], a: Asked, i: usize) -> bool
     requires { (i < most_records) × (working_words ≤ length recs.now) × (working_words ≤ length lists.now)
         × (run_end ≤ length run.now) × (entries_start recs.now i ≤ entries_end recs.now i)

@@ -1,7 +1,6 @@
 -- `cases::begin_case` meets its contract.
 use lib.ListN.{length-take}
 use Rattle.cases.proofs.Laws.{case_placed}
-use borrow.Author.Rules.{rules}
 use native.Mathlib.Omega.{arith}
 use Rattle.cases.proofs.begin_case.Goals as goal
 

@@ -1,7 +1,6 @@
 -- `cases::head_of` meets its contract.
 use Rattle.text.proofs.Laws.{mark_from, mark_to}
 use Rattle.cases.proofs.Laws.{fits_placed}
-use borrow.Author.Rules.{rules}
 use native.Mathlib.Omega.{arith}
 use Rattle.cases.proofs.head_of.Goals as goal
 

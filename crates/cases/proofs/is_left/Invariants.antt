@@ -1,8 +1,6 @@
 -- `cases::is_left` is safe and ends. The loop's invariant: the place is in the slice.
 use Prim.Native.Nat.{◌-◌, ◌≤◌}
 use lib.ListN.{length}
-use borrow.Author.Rules.{rules}
-use native.Mathlib.Omega.{arith}
 use Rattle.cases.proofs.is_left.Given as goal
 
 abbrev pub invariant-loop-i : goal.invariant-loop-i

@@ -1,8 +1,4 @@
 -- `cases::is_left_from` is safe and ends.
-use Prim.Native.Nat.{◌-◌}
-use lib.ListN.{length}
-use borrow.Author.Rules.{rules}
-use native.Mathlib.Omega.{arith}
 use Rattle.cases.proofs.is_left_from.Goals as goal
 
 pub loop-i-init : goal.loop-i-init

@@ -1,8 +1,6 @@
 -- `cases::is_left_from` is safe and ends.
 use Prim.Native.Nat.{◌-◌}
 use lib.ListN.{length}
-use borrow.Author.Rules.{rules}
-use native.Mathlib.Omega.{arith}
 use Rattle.cases.proofs.is_left_from.Given as goal
 
 abbrev pub invariant-loop-i : goal.invariant-loop-i

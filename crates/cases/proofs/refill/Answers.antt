@@ -1,8 +1,6 @@
 -- `cases::refill` meets its contract. The loop's invariant: the window has its length.
-use Prim.Native.Nat.{◌-◌}
-use mathlib.Core.Path.{◌≡◌, refl, ◌∙◌}
-use lib.ListN.{length, length-set, length-take, length-drop}
-use borrow.Author.Rules.{rules}
+use mathlib.Core.Path.{refl, ◌∙◌}
+use lib.ListN.{length-set, length-take, length-drop}
 use native.Mathlib.Omega.{arith}
 use Rattle.cases.proofs.refill.Goals as goal
 

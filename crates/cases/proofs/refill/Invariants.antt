@@ -1,9 +1,7 @@
 -- `cases::refill` meets its contract. The loop's invariant: the window has its length.
 use Prim.Native.Nat.{◌-◌}
-use mathlib.Core.Path.{◌≡◌, refl, ◌∙◌}
-use lib.ListN.{length, length-set, length-take, length-drop}
-use borrow.Author.Rules.{rules}
-use native.Mathlib.Omega.{arith}
+use mathlib.Core.Path.{◌≡◌}
+use lib.ListN.{length}
 use Rattle.cases.proofs.refill.Given as goal
 
 abbrev pub invariant-loop-i : goal.invariant-loop-i

@@ -1,6 +1,4 @@
 -- `cases::size_at` meets its contract. The loop's invariant: the number is at most the largest.
-use Prim.Native.Nat.{◌-◌, ◌≤◌}
-use lib.ListN.{length}
 use native.Mathlib.Omega.{arith}
 use Rattle.cases.proofs.size_at.Goals as goal
 

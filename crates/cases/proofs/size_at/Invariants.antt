@@ -1,7 +1,6 @@
 -- `cases::size_at` meets its contract. The loop's invariant: the number is at most the largest.
 use Prim.Native.Nat.{◌-◌, ◌≤◌}
 use lib.ListN.{length}
-use native.Mathlib.Omega.{arith}
 use Rattle.cases.proofs.size_at.Given as goal
 
 abbrev pub invariant-loop-i : goal.invariant-loop-i

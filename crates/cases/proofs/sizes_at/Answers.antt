@@ -1,7 +1,6 @@
 -- `cases::sizes_at` meets its contract.
 use mathlib.Core.Path.{refl}
 use Rattle.cases.proofs.Laws.{words_within}
-use borrow.Author.Rules.{rules}
 use Rattle.cases.proofs.sizes_at.Goals as goal
 
 pub returns : goal.returns

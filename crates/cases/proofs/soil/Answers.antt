@@ -1,9 +1,6 @@
 -- `cases::soil` is safe and ends. The loop's invariant: the slice has its length.
-use Prim.Native.Nat.{◌-◌}
-use mathlib.Core.Path.{◌≡◌, refl}
-use lib.ListN.{length, length-set}
-use borrow.Author.Rules.{rules}
-use native.Mathlib.Omega.{arith}
+use mathlib.Core.Path.{refl}
+use lib.ListN.{length-set}
 use Rattle.cases.proofs.soil.Goals as goal
 
 pub loop-i-init : goal.loop-i-init

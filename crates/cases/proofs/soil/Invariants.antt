@@ -1,9 +1,7 @@
 -- `cases::soil` is safe and ends. The loop's invariant: the slice has its length.
 use Prim.Native.Nat.{◌-◌}
-use mathlib.Core.Path.{◌≡◌, refl}
-use lib.ListN.{length, length-set}
-use borrow.Author.Rules.{rules}
-use native.Mathlib.Omega.{arith}
+use mathlib.Core.Path.{◌≡◌}
+use lib.ListN.{length}
 use Rattle.cases.proofs.soil.Given as goal
 
 abbrev pub invariant-loop-i : goal.invariant-loop-i

@@ -1,9 +1,9 @@
 -- `explain::answer_position` meets its contract.
 use native.Mathlib.Omega.{arith}
 use mathlib.Core.Logic.{inl, inr}
-use Rattle.front.proofs.Slices.{rest_long, rest_then, zeros_rest, six_lengths}
+use Rattle.front.proofs.Slices.{rest_long}
 use Rattle.front.proofs.Laws.{rest_work}
-use Rattle.explain.proofs.Laws.{moves_rest, position_none, position_told}
+use Rattle.explain.proofs.Laws.{position_none, position_told}
 use Rattle.explain.proofs.answer_position.Goals as goal
 
 pub close_file-requires : goal.close_file-requires

@@ -1,5 +1,4 @@
 -- `explain::explain` meets its contract.
-use Rattle.front.proofs.Slices.{rest_then, six_lengths}
 use Rattle.front.proofs.Laws.{opened_file, refused_file}
 use Rattle.explain.proofs.Laws.{held_open, short_explains, stopped_explains}
 use Rattle.explain.proofs.explain.Goals as goal

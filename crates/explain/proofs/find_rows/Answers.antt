@@ -1,5 +1,4 @@
 -- `explain::find_rows` meets its contract.
-use Rattle.front.proofs.Slices.{six_lengths}
 use Rattle.explain.proofs.Laws.{found}
 use Rattle.explain.proofs.find_rows.Goals as goal
 

@@ -5,7 +5,6 @@ use Rattle.records.specs.Adding.{full}
 use Rattle.summary.proofs.Answering.{limited_done}
 use Rattle.records.proofs.Funs.{untouched}
 use Rattle.facts.proofs.Facts.{fact_asked, fact_puttable, fact_repeated, fact_crowded, fact_over, over_past, fact_added, fact_past}
-use borrow.Author.Rules.{rules}
 use Rattle.facts.proofs.add_fact.Goals as goal
 
 pub returns-then-k-gt-MOST_NAMES : goal.returns-then-k-gt-MOST_NAMES

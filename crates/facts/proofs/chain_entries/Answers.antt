@@ -1,9 +1,8 @@
 -- `facts::chain_entries` meets its contract. The loop's invariant: the entries up to `e` are on their chains.
-use Prim.Native.Nat.{◌-◌, ◌%◌, ◌≤◌}
+use Prim.Native.Nat.{◌%◌}
 use mathlib.Core.Path.{ap}
 use lib.ListN.{length-set}
 use Rattle.triggers.specs.Entries.{last_flag}
-use Rattle.facts.specs.Putting.{Chains}
 use Rattle.facts.proofs.Chaining.{chain_start, chain_none, chain_one, chain_end}
 use native.Mathlib.Omega.{arith}
 use Rattle.facts.proofs.chain_entries.Goals as goal

@@ -1,11 +1,6 @@
 -- `facts::chain_entries` meets its contract. The loop's invariant: the entries up to `e` are on their chains.
-use Prim.Native.Nat.{◌-◌, ◌%◌, ◌≤◌}
-use mathlib.Core.Path.{ap}
-use lib.ListN.{length-set}
-use Rattle.triggers.specs.Entries.{last_flag}
+use Prim.Native.Nat.{◌-◌, ◌≤◌}
 use Rattle.facts.specs.Putting.{Chains}
-use Rattle.facts.proofs.Chaining.{chain_start, chain_none, chain_one, chain_end}
-use native.Mathlib.Omega.{arith}
 use Rattle.facts.proofs.chain_entries.Given as goal
 
 abbrev pub invariant-loop-e : goal.invariant-loop-e

@@ -1,5 +1,4 @@
 -- `facts::over_refusal` meets its contract.
-use borrow.Author.Rules.{rules}
 use Rattle.facts.specs.Refusing.{over_refusal}
 use Rattle.facts.proofs.over_refusal.Goals as goal
 

@@ -1,6 +1,5 @@
 -- `facts::put_fact` meets its contract.
 use native.Mathlib.Omega.{arith}
-use mathlib.Core.Path.{◌∙◌}
 use lib.ListN.{length-set}
 use Rattle.facts.proofs.Chaining.{chained_taken}
 use Rattle.facts.proofs.Coding.{small_as, rowed_as}

@@ -1,5 +1,4 @@
 -- `filing::last_term` meets its contract: by the step of the cursor, and whether a field is left.
-use borrow.Author.Rules.{rules}
 use Rattle.filing.proofs.Saying.{last_is, last_more, last_refused}
 use Rattle.filing.proofs.last_term.Goals as goal
 

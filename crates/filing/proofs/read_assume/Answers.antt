@@ -4,7 +4,6 @@ use Rattle.filing.proofs.Naming.{spelled_standing}
 use Rattle.filing.proofs.Naming.{many_few}
 use Rattle.filing.proofs.Saying.{assume_not}
 use Rattle.filing.proofs.Recording.{begins, name_not, assume_line}
-use borrow.Author.Rules.{rules}
 use Rattle.filing.proofs.read_assume.Goals as goal
 
 pub read_name-requires : goal.read_name-requires

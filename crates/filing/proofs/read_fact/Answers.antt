@@ -4,7 +4,6 @@ use Rattle.fields.proofs.Pushing.{number_read, number_not}
 use Rattle.filing.proofs.Saying.{number_placed, number_below, group_read, group_not, group_placed, group_most, last_term, last_refusal, last_below, fact_is, fact_term_not, fact_group_not, fact_not}
 use Rattle.filing.specs.Lines.{fact_adds, fact_stops}
 use Rattle.filing.proofs.Naming.{untouched}
-use borrow.Author.Rules.{rules}
 use Rattle.filing.proofs.read_fact.Goals as goal
 
 pub number-requires : goal.number-requires

@@ -1,5 +1,4 @@
 -- `filing::read_fun` meets its contract: by the name that is read, whether a field is left, and the record added.
-use borrow.Author.Rules.{rules}
 use Rattle.model.specs.declared.Refusal.TheVariants as refusal
 use Rattle.fields.proofs.Spelling.{reads_name}
 use Rattle.filing.proofs.Naming.{spelled_standing}

@@ -4,7 +4,6 @@ use Rattle.filing.proofs.Naming.{spelled_standing}
 use Rattle.filing.proofs.Naming.{many_below}
 use Rattle.filing.proofs.Saying.{last_term, last_refusal, last_below, root_term_not, root_name_not}
 use Rattle.filing.proofs.Recording.{begins, name_not, rest_not, root_line}
-use borrow.Author.Rules.{rules}
 use Rattle.filing.proofs.read_goal.Goals as goal
 
 pub read_name-requires : goal.read_name-requires

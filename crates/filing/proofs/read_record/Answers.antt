@@ -1,7 +1,6 @@
 -- `filing::read_record` meets its contract: each kind by its own.
 use Rattle.fields.specs.Wording.{record_line_kind}
 use Rattle.filing.proofs.Recording.{record_line}
-use borrow.Author.Rules.{rules}
 use Rattle.filing.proofs.read_record.Goals as goal
 
 pub read_assume-requires : goal.read_assume-requires

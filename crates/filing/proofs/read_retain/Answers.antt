@@ -1,6 +1,5 @@
 -- `filing::read_retain` meets its contract: by the names, and the record added.
 use Rattle.filing.proofs.Retaining.{rest_standing, retain_line, retain_not}
-use borrow.Author.Rules.{rules}
 use Rattle.filing.proofs.read_retain.Goals as goal
 
 pub spell_rest-requires : goal.spell_rest-requires

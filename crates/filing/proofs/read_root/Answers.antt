@@ -2,7 +2,6 @@
 use Rattle.fields.proofs.Pushing.{number_read, number_not}
 use Rattle.filing.proofs.Saying.{number_placed, number_below, root_then, root_not}
 use Rattle.filing.proofs.Recording.{line_not, line_said}
-use borrow.Author.Rules.{rules}
 use Rattle.filing.proofs.read_root.Goals as goal
 
 pub number-requires : goal.number-requires

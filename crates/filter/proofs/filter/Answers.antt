@@ -1,6 +1,6 @@
 -- `filter::filter` meets its contract.
-use Rattle.front.proofs.Slices.{rest_long, rest_then, six_lengths}
-use Rattle.front.proofs.Laws.{opened_file, refused_file, closed_file, rest_work, rest_closed}
+use Rattle.front.proofs.Slices.{rest_long, rest_then}
+use Rattle.front.proofs.Laws.{opened_file, refused_file, closed_file, rest_work}
 use Rattle.filter.proofs.Laws.{refused_exact}
 use Rattle.filter.proofs.Answers.{open_runs, open_gives}
 use Rattle.filter.proofs.Demands.{promise}

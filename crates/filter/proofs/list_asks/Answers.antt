@@ -1,15 +1,13 @@
 -- `filter::list_asks` meets its contract. The loop's invariant: the answer and the lists are those of the positions passed, and
 -- the chain of the last of them stands in the run's slice.
-use Prim.Native.Nat.{◌+◌, ◌-◌, ◌≤◌, ◌<◌}
+use Prim.Native.Nat.{◌+◌, ◌≤◌, ◌<◌}
 use native.Mathlib.Omega.{arith}
 use mathlib.Core.Path.{◌≡◌, refl}
 use Rattle.model.specs.Reading.{most_records, most_asks}
 use Rattle.model.specs.Outcome.{working_words}
-use Rattle.words.specs.Slices.{SameBut}
 use Rattle.words.proofs.Slices.{same_self, same_then}
-use Rattle.filter.specs.Call.{positions_of}
-use Rattle.filter.proofs.Laws.{ListsOn, lists_first, lists_next, lists_on, lists_last}
-use Rattle.filter.proofs.Answers.{runs_on, StandsBefore, stands_next, goes_on, positions_none, positions_next}
+use Rattle.filter.proofs.Laws.{lists_first, lists_next, lists_on, lists_last}
+use Rattle.filter.proofs.Answers.{runs_on, stands_next, goes_on, positions_none, positions_next}
 use Rattle.filter.proofs.list_asks.Goals as goal
 
 pub loop-i-init : goal.loop-i-init

@@ -1,6 +1,5 @@
 -- `filter::settle` meets its contract.
 use native.Mathlib.Omega.{arith}
-use borrow.Author.Rules.{rules}
 use Rattle.filter.proofs.Laws.{settle_8, settle_list}
 use Rattle.filter.proofs.settle.Goals as goal
 

@@ -1,5 +1,4 @@
 -- `firing::entry_met` meets its contract.
-use borrow.Author.Rules.{rules}
 use Rattle.firing.proofs.Firing.{entry_none, entry_some}
 use Rattle.firing.proofs.entry_met.Goals as goal
 

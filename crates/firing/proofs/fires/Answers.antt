@@ -1,12 +1,8 @@
 -- `firing::fires` meets its contract. The loops' invariants: what is left to look at has the answer.
-use Prim.Native.Nat.{◌-◌, ◌≤◌}
 use native.Mathlib.Omega.{arith}
-use mathlib.Core.Path.{◌≡◌, refl, sym, ◌∙◌}
+use mathlib.Core.Path.{refl, sym, ◌∙◌}
 use mathlib.Core.Bool.{true}
-use borrow.Author.Rules.{rules}
 use borrow.Author.Tests.{not-true, not-false}
-use Rattle.model.specs.Lists.{part}
-use Rattle.firing.specs.Firing.{fires_in}
 use Rattle.firing.proofs.Firing.{fires_unmet, fires_unmet_last, fires_met, fires_met_last, fires_end}
 use Rattle.firing.proofs.fires.Goals as goal
 

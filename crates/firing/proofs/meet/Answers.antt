@@ -1,5 +1,4 @@
 -- `firing::meet` meets its contract.
-use borrow.Author.Rules.{rules}
 use Rattle.firing.proofs.Meets.{mark_set, mark_stay}
 use Rattle.firing.proofs.meet.Goals as goal
 

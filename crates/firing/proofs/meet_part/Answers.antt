@@ -1,7 +1,6 @@
 -- `firing::meet_part` meets its contract. The loop's invariant: what is left to meet comes to the whole.
-use Prim.Native.Nat.{◌-◌}
 use native.Mathlib.Omega.{arith}
-use Rattle.firing.proofs.Meets.{Met, meet_start, meet_next, meet_end}
+use Rattle.firing.proofs.Meets.{meet_start, meet_next, meet_end}
 use Rattle.firing.proofs.meet_part.Goals as goal
 
 pub loop-i-init : goal.loop-i-init

@@ -1,12 +1,8 @@
 -- `firing::meet_record` meets its contract. The loop's invariant: what is left to meet comes to the whole.
 use Prim.Native.Nat.{◌-◌}
-use native.Mathlib.Omega.{arith}
-use mathlib.Core.Path.{ap, ◌∙◌}
-use lib.ListN.{length}
 use Rattle.records.specs.Columns.{macro_at}
 use Rattle.macros.specs.Macros.{opens_at}
-use Rattle.firing.proofs.Marks.{mark_length}
-use Rattle.firing.proofs.Meets.{MetAll, all_start, all_next, all_end, uses_met}
+use Rattle.firing.proofs.Meets.{MetAll}
 use Rattle.firing.proofs.meet_record.Given as goal
 
 abbrev pub invariant-loop-j : goal.invariant-loop-j

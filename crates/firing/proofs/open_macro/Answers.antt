@@ -1,6 +1,5 @@
 -- `firing::open_macro` meets its contract.
 use native.Mathlib.Omega.{arith}
-use borrow.Author.Rules.{rules}
 use mathlib.Core.Path.{ap, ◌∙◌}
 use lib.ListN.{length}
 use Rattle.firing.proofs.Marks.{mark_length, marks_length}

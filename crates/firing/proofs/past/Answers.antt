@@ -1,11 +1,7 @@
 -- `firing::past` meets its contract. The loop's invariant: what is left to pass.
-use Prim.Native.Nat.{ℕ, ◌-◌, ◌≤◌}
 use native.Mathlib.Omega.{arith}
-use mathlib.Core.Path.{◌≡◌, refl, sym, ◌∙◌}
+use mathlib.Core.Path.{refl, sym, ◌∙◌}
 use mathlib.Core.Bool.{true, false}
-use mathlib.Core.List.{List}
-use Rattle.model.specs.Lists.{part}
-use Rattle.firing.specs.Firing.{fires_in}
 use Rattle.firing.proofs.Firing.{past_last, past_next, fires_end}
 use Rattle.firing.proofs.past.Goals as goal
 

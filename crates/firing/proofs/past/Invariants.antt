@@ -1,12 +1,10 @@
 -- `firing::past` meets its contract. The loop's invariant: what is left to pass.
 use Prim.Native.Nat.{ℕ, ◌-◌, ◌≤◌}
-use native.Mathlib.Omega.{arith}
-use mathlib.Core.Path.{◌≡◌, refl, sym, ◌∙◌}
-use mathlib.Core.Bool.{true, false}
+use mathlib.Core.Path.{◌≡◌}
+use mathlib.Core.Bool.{false}
 use mathlib.Core.List.{List}
 use Rattle.model.specs.Lists.{part}
 use Rattle.firing.specs.Firing.{fires_in}
-use Rattle.firing.proofs.Firing.{past_last, past_next, fires_end}
 use Rattle.firing.proofs.past.Given as goal
 
 abbrev pub invariant-loop-j : goal.invariant-loop-j

@@ -1,5 +1,4 @@
 -- `firing::retained` meets its contract.
-use borrow.Author.Rules.{rules}
 use Rattle.firing.proofs.Asked.{flag_off, flag_on}
 use Rattle.firing.proofs.retained.Goals as goal
 

@@ -1,5 +1,4 @@
 -- `firing::starts` meets its contract.
-use borrow.Author.Rules.{rules}
 use borrow.Author.Tests.{not-true, not-false}
 use Rattle.firing.proofs.Asked.{starts_root, starts_no, starts_apart, starts_ambient}
 use Rattle.firing.proofs.starts.Goals as goal

@@ -1,6 +1,6 @@
 -- `front::open_file` meets its contract.
 use mathlib.Core.Path.{sym, ◌∙◌}
-use Rattle.front.proofs.Slices.{long, zeros_rest, six_lengths}
+use Rattle.front.proofs.Slices.{long}
 use Rattle.front.proofs.Laws.{opening_7, opening_9}
 use Rattle.front.proofs.open_file.Goals as goal
 

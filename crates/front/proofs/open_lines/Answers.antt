@@ -1,6 +1,6 @@
 -- `front::open_lines` meets its contract.
 use native.Mathlib.Omega.{arith}
-use Rattle.front.proofs.Slices.{rest_long, rest_then, zeros_rest, six_lengths}
+use Rattle.front.proofs.Slices.{rest_long}
 use Rattle.front.proofs.Laws.{place_small, line_refused, lent, rest_read, opening_read, opening_refused}
 use Rattle.front.proofs.open_lines.Goals as goal
 

@@ -1,10 +1,9 @@
 -- `macros::find_opened` meets its contract. The loop's invariant: the numbers among the names before the n-th are found.
 use native.Mathlib.Omega.{arith}
-use Prim.Native.Nat.{◌-◌, ◌≤◌}
-use mathlib.Core.Path.{◌≡◌, refl}
+use mathlib.Core.Path.{refl}
 use mathlib.Core.Logic.{inl, inr}
-use lib.ListN.{length, length-set}
-use Rattle.macros.proofs.Opening.{Finding, finding_none, finding_other, finding_one, finding_end}
+use lib.ListN.{length-set}
+use Rattle.macros.proofs.Opening.{finding_none, finding_other, finding_one, finding_end}
 use native.Mathlib.Omega.{arith}
 use Rattle.macros.proofs.find_opened.Goals as goal
 

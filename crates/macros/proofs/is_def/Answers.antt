@@ -1,5 +1,4 @@
 -- `macros::is_def` meets its contract.
-use native.Mathlib.Omega.{arith}
 use Rattle.macros.proofs.Opening.{not_def, def_by}
 use Rattle.macros.proofs.is_def.Goals as goal
 

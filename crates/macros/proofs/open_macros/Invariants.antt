@@ -1,11 +1,6 @@
 -- `macros::open_macros` meets its contract. The loop's invariant: the words of the names before the n-th are written.
-use native.Mathlib.Omega.{arith}
 use Prim.Native.Nat.{◌-◌, ◌≤◌}
-use mathlib.Core.Path.{refl, sym}
-use Rattle.model.proofs.ListLaws.{zero_at}
-use Rattle.macros.specs.Macros.{macro_count, Found, MacrosOpened}
-use Rattle.macros.proofs.Opening.{found_low, opens_none, opens_more, taken_low, opens_end}
-use native.Mathlib.Omega.{arith}
+use Rattle.macros.specs.Macros.{Found, MacrosOpened}
 use Rattle.macros.proofs.open_macros.Given as goal
 
 abbrev pub invariant-loop-n : goal.invariant-loop-n

@@ -6,7 +6,6 @@ use Rattle.words.proofs.Slices.{same_then}
 use Rattle.fields.proofs.Pushing.{run_at, run_not, pushable_then, pushable_field, number_read, number_not}
 use Rattle.nodes.proofs.Lines.{end_more, end_none}
 use Rattle.nodes.proofs.Quantifiers.{no_body, no_number, no_groups, groups_there, quantifies_not, quantifies_at}
-use borrow.Author.Rules.{rules}
 use native.Mathlib.Omega.{arith}
 use Rattle.nodes.proofs.push_quantifier.Goals as goal
 

@@ -8,7 +8,6 @@ use Rattle.fields.proofs.Spelling.{reads_name, reads_not}
 use Rattle.fields.proofs.Runs.{rest_ran, rest_refused}
 use Rattle.nodes.proofs.Terms.{pushable_start, line_not, line_over, line_few, line_pushed, line_added}
 use Rattle.nodes.proofs.Lines.{call_said, name_refused, call_read, line_terms}
-use borrow.Author.Rules.{rules}
 use Rattle.nodes.proofs.read_call.Goals as goal
 
 pub read_name-requires : goal.read_name-requires

@@ -6,7 +6,6 @@ use Rattle.fields.specs.Spelling.{table_there}
 use Rattle.fields.proofs.Spelling.{reads_name, reads_not}
 use Rattle.nodes.proofs.Terms.{line_not, line_over, line_few, line_pushed, line_added}
 use Rattle.nodes.proofs.Lines.{end_more, free_said, name_refused, free_read}
-use borrow.Author.Rules.{rules}
 use Rattle.nodes.proofs.read_free.Goals as goal
 
 pub read_name-requires : goal.read_name-requires

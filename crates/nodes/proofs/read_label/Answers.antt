@@ -6,7 +6,6 @@ use Rattle.fields.proofs.Pushing.{run_at, run_not}
 use Rattle.fields.proofs.Runs.{term_ran, term_refused}
 use Rattle.nodes.proofs.Terms.{pushable_start, line_not, line_over, line_pushed, line_added}
 use Rattle.nodes.proofs.Lines.{end_more, label_said, body_refused, label_read, line_body}
-use borrow.Author.Rules.{rules}
 use native.Mathlib.Omega.{arith}
 use Rattle.nodes.proofs.read_label.Goals as goal
 

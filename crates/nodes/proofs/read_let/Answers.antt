@@ -6,7 +6,6 @@ use Rattle.fields.proofs.Pushing.{run_at, run_not, pushable_then}
 use Rattle.fields.proofs.Runs.{term_ran, rest_ran, term_refused, rest_refused}
 use Rattle.nodes.proofs.Terms.{pushable_start, line_not, line_over, line_pushed, line_added}
 use Rattle.nodes.proofs.Lines.{let_said, body_refused, let_read, line_bodied, line_body, line_rest}
-use borrow.Author.Rules.{rules}
 use native.Mathlib.Omega.{arith}
 use Rattle.nodes.proofs.read_let.Goals as goal
 

@@ -7,7 +7,6 @@ use Rattle.fields.proofs.Pushing.{run_at, run_not}
 use Rattle.fields.proofs.Runs.{rest_ran, rest_refused}
 use Rattle.nodes.proofs.Terms.{pushable_start, line_not, line_over, line_pushed, line_added}
 use Rattle.nodes.proofs.Lines.{op_code, op_said, word_refused, op_line, line_terms}
-use borrow.Author.Rules.{rules}
 use Rattle.nodes.proofs.read_op.Goals as goal
 
 pub read_op_word-requires : goal.read_op_word-requires

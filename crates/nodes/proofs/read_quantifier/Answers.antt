@@ -2,7 +2,6 @@
 use Rattle.words.proofs.Slices.{same_self}
 use Rattle.nodes.proofs.Terms.{pushable_start, line_not, line_over, line_pushed, line_added}
 use Rattle.nodes.proofs.Quantifiers.{quantifier_node, quantifier_read, quantifier_not, quantifier_line, quantifier_patterns, quantifier_row}
-use borrow.Author.Rules.{rules}
 use native.Mathlib.Omega.{arith}
 use Rattle.nodes.proofs.read_quantifier.Goals as goal
 

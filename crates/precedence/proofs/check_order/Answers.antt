@@ -1,5 +1,4 @@
 -- `precedence::check_order` meets its contract.
-use Rattle.front.proofs.Slices.{rest_then, six_lengths}
 use Rattle.front.proofs.Laws.{opened_file, refused_file}
 use Rattle.precedence.proofs.Call.{open_late, open_orders, refused_orders}
 use Rattle.precedence.proofs.check_order.Goals as goal

@@ -1,5 +1,4 @@
 -- `precedence::find_rows` meets its contract.
-use Rattle.front.proofs.Slices.{six_lengths}
 use Rattle.precedence.proofs.Call.{found_rows}
 use Rattle.precedence.proofs.find_rows.Goals as goal
 

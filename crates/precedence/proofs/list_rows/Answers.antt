@@ -1,7 +1,7 @@
 -- `precedence::list_rows` meets its contract.
 use native.Mathlib.Omega.{arith}
-use Rattle.front.proofs.Slices.{rest_long, rest_then, zeros_rest, six_lengths}
-use Rattle.precedence.proofs.Call.{late_small, put_count, put_same, put_rest, short_listed, listed_rest, rows_listed}
+use Rattle.front.proofs.Slices.{rest_long}
+use Rattle.precedence.proofs.Call.{late_small, put_count, put_same, put_rest, short_listed, rows_listed}
 use Rattle.precedence.proofs.list_rows.Goals as goal
 
 pub put_rows-count-requires : goal.put_rows-count-requires

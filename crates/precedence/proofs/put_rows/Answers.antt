@@ -1,9 +1,8 @@
 -- `precedence::put_rows` meets its contract. The loop's invariant: the records whose rows are left.
 use native.Mathlib.Omega.{arith}
-use Prim.Native.Nat.{◌-◌}
 use mathlib.Core.Path.{◌∙◌}
 use Rattle.prune.proofs.Rows.{rows_length_same}
-use Rattle.precedence.proofs.Putting.{DefsTo, defs_start, defs_next, defs_room, defs_end}
+use Rattle.precedence.proofs.Putting.{defs_start, defs_next, defs_room, defs_end}
 use native.Mathlib.Omega.{arith}
 use Rattle.precedence.proofs.put_rows.Goals as goal
 

@@ -1,7 +1,6 @@
 -- `precedence::stamp_body` meets its contract. The loop's invariant: the names that are left to stamp.
 use Prim.Native.Nat.{◌+◌, ◌-◌}
-use Rattle.precedence.proofs.Stamps.{StampTo, stamp_start, stamp_next, stamp_end, uses_fit, use_low}
-use native.Mathlib.Omega.{arith}
+use Rattle.precedence.proofs.Stamps.{StampTo}
 use Rattle.precedence.proofs.stamp_body.Given as goal
 
 abbrev pub invariant-loop-j : goal.invariant-loop-j

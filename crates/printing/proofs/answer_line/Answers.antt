@@ -1,6 +1,5 @@
 -- `printing::answer_line` meets its contract.
 use Rattle.printing.proofs.Answers.{refused_printed}
-use borrow.Author.Rules.{rules}
 use Rattle.printing.proofs.answer_line.Goals as goal
 
 pub returns-in-Accepted : goal.returns-in-Accepted

@@ -1,12 +1,7 @@
 -- `printing::find_line` meets its contract. The loop's invariant: the list at a position starts behind those before it, and the
 -- line stands so many lines behind its start.
-use Prim.Native.Nat.{◌+◌, ◌<◌}
-use mathlib.Core.Path.{◌≡◌}
-use lib.ListN.{take}
-use Rattle.model.specs.Lists.{sum}
-use Rattle.model.specs.Reading.{most_asks}
+use Prim.Native.Nat.{◌+◌}
 use Rattle.printing.proofs.Sums.{sum_next, sum_none, sum_inside}
-use borrow.Author.Rules.{rules}
 use native.Mathlib.Omega.{arith}
 use Rattle.printing.proofs.find_line.Goals as goal
 

@@ -5,9 +5,6 @@ use mathlib.Core.Path.{◌≡◌}
 use lib.ListN.{take}
 use Rattle.model.specs.Lists.{sum}
 use Rattle.model.specs.Reading.{most_asks}
-use Rattle.printing.proofs.Sums.{sum_next, sum_none, sum_inside}
-use borrow.Author.Rules.{rules}
-use native.Mathlib.Omega.{arith}
 use Rattle.printing.proofs.find_line.Given as goal
 
 abbrev pub invariant-loop-position : goal.invariant-loop-position

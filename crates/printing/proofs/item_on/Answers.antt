@@ -1,7 +1,6 @@
 -- `printing::item_on` meets its contract.
 use mathlib.Core.Path.{◌∙◌}
 use Rattle.printing.proofs.Lines.{item_in}
-use borrow.Author.Rules.{rules}
 use Rattle.printing.proofs.item_on.Goals as goal
 
 pub returns : goal.returns

@@ -1,7 +1,6 @@
 -- `printing::late_line` meets its contract.
 use Rattle.model.specs.Names.{bytes}
 use Rattle.printing.proofs.Texts.{puts_then, held, late_row_parts}
-use borrow.Author.Rules.{rules}
 use Rattle.printing.proofs.late_line.Goals as goal
 
 pub returns : goal.returns

@@ -1,6 +1,5 @@
 -- `printing::line_count` meets its contract.
 use Rattle.printing.proofs.Answers.{refused_counted}
-use borrow.Author.Rules.{rules}
 use Rattle.printing.proofs.line_count.Goals as goal
 
 pub returns-in-Refused : goal.returns-in-Refused

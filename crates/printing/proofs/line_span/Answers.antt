@@ -1,7 +1,6 @@
 -- `printing::line_span` meets its contract.
 use Prim.Native.Nat.{◌-◌}
 use Rattle.printing.proofs.Lines.{span_zero, span_none, span_there}
-use borrow.Author.Rules.{rules}
 use native.Mathlib.Omega.{arith}
 use Rattle.printing.proofs.line_span.Goals as goal
 

@@ -1,12 +1,9 @@
 -- `printing::line_starts` meets its contract. The loop's invariant: the starts of the lines up to `from` are found.
-use Prim.Native.Nat.{◌-◌}
-use mathlib.Core.Path.{◌≡◌, refl, ◌∙◌}
-use lib.ListN.{length, length-set}
+use mathlib.Core.Path.{refl, ◌∙◌}
+use lib.ListN.{length-set}
 use lib.Seq.{get_or-set_other}
 use Rattle.text.proofs.Laws.{mark_from, mark_to}
-use Rattle.printing.specs.Printed.{SameFrom}
-use Rattle.printing.proofs.Lines.{Starting, starting_start, starting_next, starting_end}
-use borrow.Author.Rules.{rules}
+use Rattle.printing.proofs.Lines.{starting_start, starting_next, starting_end}
 use native.Mathlib.Omega.{arith}
 use Rattle.printing.proofs.line_starts.Goals as goal
 

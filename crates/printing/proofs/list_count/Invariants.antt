@@ -1,15 +1,10 @@
 -- `printing::list_count` meets its contract. The loop's invariant: the lines of the positions passed are counted, each of which
 -- has a round.
 use Prim.Native.Nat.{ℕ, ◌+◌, ◌*◌, ◌-◌, ◌≤◌, ◌<◌}
-use mathlib.Core.Path.{◌≡◌, refl}
-use lib.ListN.{take, get_or, length-map, get_or-eq_default}
+use mathlib.Core.Path.{◌≡◌}
+use lib.ListN.{take, get_or}
 use Rattle.model.specs.Lists.{sum}
 use Rattle.model.specs.Reading.{most_asks}
-use Rattle.printing.proofs.Sums.{sum_none, sum_next}
-use Rattle.printing.proofs.Answers.{lists_counted}
-use borrow.Author.Count.{below_more}
-use borrow.Author.Rules.{rules}
-use native.Mathlib.Omega.{arith}
 use Rattle.printing.proofs.list_count.Given as goal
 
 abbrev pub invariant-loop-p : goal.invariant-loop-p

@@ -1,6 +1,5 @@
 -- `printing::list_line` meets its contract.
 use Rattle.printing.proofs.Answers.{line_inside, word_inside, kept_printed, sum_printed}
-use borrow.Author.Rules.{rules}
 use native.Mathlib.Omega.{arith}
 use Rattle.printing.proofs.list_line.Goals as goal
 

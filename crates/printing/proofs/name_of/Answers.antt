@@ -1,6 +1,5 @@
 -- `printing::name_of` meets its contract.
 use Rattle.printing.proofs.Lines.{named_short}
-use borrow.Author.Rules.{rules}
 use native.Mathlib.Omega.{arith}
 use Rattle.printing.proofs.name_of.Goals as goal
 

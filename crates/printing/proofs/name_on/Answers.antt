@@ -1,7 +1,6 @@
 -- `printing::name_on` meets its contract.
 use mathlib.Core.Path.{◌∙◌}
 use Rattle.printing.proofs.Lines.{name_in}
-use borrow.Author.Rules.{rules}
 use Rattle.printing.proofs.name_on.Goals as goal
 
 pub returns : goal.returns

@@ -1,6 +1,5 @@
 -- `printing::print_count` is safe and ends.
 use Rattle.printing.proofs.Texts.{counted}
-use borrow.Author.Rules.{rules}
 use Rattle.printing.proofs.print_count.Goals as goal
 
 pub slice_bounds-write_all-end : goal.slice_bounds-write_all-end

@@ -1,10 +1,7 @@
 -- `printing::print_kept` is safe and ends. The loop's invariant: the text has its length.
 use Prim.Native.Nat.{◌-◌}
-use mathlib.Core.Path.{◌≡◌, refl}
+use mathlib.Core.Path.{◌≡◌}
 use lib.ListN.{length}
-use Rattle.printing.proofs.Texts.{counted}
-use borrow.Author.Rules.{rules}
-use native.Mathlib.Omega.{arith}
 use Rattle.printing.proofs.print_kept.Given as goal
 
 abbrev pub invariant-loop-i : goal.invariant-loop-i

@@ -1,6 +1,5 @@
 -- `printing::print_pass` is safe and ends.
 use Rattle.printing.proofs.Texts.{counted}
-use borrow.Author.Rules.{rules}
 use Rattle.printing.proofs.print_pass.Goals as goal
 
 pub slice_bounds-write_all-end : goal.slice_bounds-write_all-end

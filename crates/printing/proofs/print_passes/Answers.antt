@@ -1,8 +1,5 @@
 -- `printing::print_passes` is safe and ends. The loop's invariant: the text has its length, and so many words are passed.
-use Prim.Native.Nat.{◌-◌, ◌≤◌}
-use mathlib.Core.Path.{◌≡◌, refl}
-use lib.ListN.{length, take}
-use Rattle.model.specs.Lists.{sum}
+use mathlib.Core.Path.{refl}
 use Rattle.printing.proofs.Sums.{sum_next, sum_within, sum_none}
 use borrow.Author.Rules.{rules}
 use native.Mathlib.Omega.{arith}

@@ -1,11 +1,8 @@
 -- `printing::print_passes` is safe and ends. The loop's invariant: the text has its length, and so many words are passed.
 use Prim.Native.Nat.{◌-◌, ◌≤◌}
-use mathlib.Core.Path.{◌≡◌, refl}
+use mathlib.Core.Path.{◌≡◌}
 use lib.ListN.{length, take}
 use Rattle.model.specs.Lists.{sum}
-use Rattle.printing.proofs.Sums.{sum_next, sum_within, sum_none}
-use borrow.Author.Rules.{rules}
-use native.Mathlib.Omega.{arith}
 use Rattle.printing.proofs.print_passes.Given as goal
 
 abbrev pub invariant-loop-p : goal.invariant-loop-p

@@ -1,9 +1,6 @@
 -- `printing::print_rows` is safe and ends. The loop's invariant: the text has its length.
-use Prim.Native.Nat.{◌-◌}
-use mathlib.Core.Path.{◌≡◌, refl}
-use lib.ListN.{length}
+use mathlib.Core.Path.{refl}
 use Rattle.printing.proofs.Texts.{counted}
-use borrow.Author.Rules.{rules}
 use native.Mathlib.Omega.{arith}
 use Rattle.printing.proofs.print_rows.Goals as goal
 

@@ -1,7 +1,5 @@
 -- `printing::put` meets its contract. The loop's invariant: the first `i` bytes are put.
-use Prim.Native.Nat.{◌-◌}
-use lib.ListN.{length}
-use Rattle.printing.proofs.Texts.{Putting, putting_start, putting_next, putting_end}
+use Rattle.printing.proofs.Texts.{putting_start, putting_next, putting_end}
 use native.Mathlib.Omega.{arith}
 use Rattle.printing.proofs.put.Goals as goal
 

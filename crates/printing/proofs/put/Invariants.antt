@@ -1,8 +1,7 @@
 -- `printing::put` meets its contract. The loop's invariant: the first `i` bytes are put.
 use Prim.Native.Nat.{◌-◌}
 use lib.ListN.{length}
-use Rattle.printing.proofs.Texts.{Putting, putting_start, putting_next, putting_end}
-use native.Mathlib.Omega.{arith}
+use Rattle.printing.proofs.Texts.{Putting}
 use Rattle.printing.proofs.put.Given as goal
 
 abbrev pub invariant-loop-i : goal.invariant-loop-i

@@ -1,7 +1,6 @@
 -- `printing::put_count` meets its contract.
 use mathlib.Core.Path.{◌∙◌}
 use Rattle.printing.proofs.Texts.{shown, few_digits, puts_same}
-use borrow.Author.Rules.{rules}
 use native.Mathlib.Omega.{arith}
 use Rattle.printing.proofs.put_count.Goals as goal
 

@@ -1,5 +1,4 @@
 -- `printing::put_number` meets its contract.
-use borrow.Author.Rules.{rules}
 use Rattle.printing.proofs.put_number.Goals as goal
 
 pub returns : goal.returns

@@ -1,7 +1,6 @@
 -- `printing::put_numbers` meets its contract.
 use Rattle.model.specs.Names.{bytes}
 use Rattle.printing.proofs.Texts.{puts_then, puts_same, numbers_parts}
-use borrow.Author.Rules.{rules}
 use native.Mathlib.Omega.{arith}
 use Rattle.printing.proofs.put_numbers.Goals as goal
 

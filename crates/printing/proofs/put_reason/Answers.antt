@@ -1,7 +1,6 @@
 -- `printing::put_reason` meets its contract.
 use Rattle.model.specs.Names.{bytes}
 use Rattle.printing.specs.Printed.{reason}
-use borrow.Author.Rules.{rules}
 use native.Mathlib.Omega.{arith}
 use Rattle.printing.proofs.put_reason.Goals as goal
 

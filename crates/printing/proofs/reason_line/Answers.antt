@@ -1,7 +1,6 @@
 -- `printing::reason_line` meets its contract.
 use Rattle.model.specs.Names.{bytes}
 use Rattle.printing.proofs.Texts.{puts_then, held, reason_parts, reason_alone}
-use borrow.Author.Rules.{rules}
 use Rattle.printing.proofs.reason_line.Goals as goal
 
 pub has_line-requires : goal.has_line-requires

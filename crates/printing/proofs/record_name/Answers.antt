@@ -3,7 +3,6 @@ use mathlib.Core.Path.{refl, sym, ◌∙◌}
 use Rattle.model.specs.Names.{bytes}
 use Rattle.text.proofs.Laws.{mark_from, mark_to}
 use Rattle.printing.proofs.Lines.{part_short, record_none, record_root, record_other}
-use borrow.Author.Rules.{rules}
 use native.Mathlib.Omega.{arith}
 use Rattle.printing.proofs.record_name.Goals as goal
 

@@ -1,7 +1,6 @@
 -- `printing::refused_line` meets its contract.
 use Rattle.model.specs.Names.{bytes}
 use Rattle.printing.proofs.Texts.{puts_then, held, refused_parts}
-use borrow.Author.Rules.{rules}
 use Rattle.printing.proofs.refused_line.Goals as goal
 
 pub returns : goal.returns

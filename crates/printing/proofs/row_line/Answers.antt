@@ -1,7 +1,6 @@
 -- `printing::row_line` meets its contract.
 use Rattle.model.specs.Names.{bytes}
 use Rattle.printing.proofs.Texts.{puts_then, held, reason_row_parts}
-use borrow.Author.Rules.{rules}
 use Rattle.printing.proofs.row_line.Goals as goal
 
 pub returns : goal.returns

@@ -3,7 +3,6 @@ use Prim.Native.Nat.{◌+◌}
 use mathlib.Core.Path.{refl}
 use Rattle.text.proofs.Laws.{mark_from, mark_to}
 use Rattle.printing.proofs.Lines.{part_short, second_none, second_some}
-use borrow.Author.Rules.{rules}
 use native.Mathlib.Omega.{arith}
 use Rattle.printing.proofs.second_field.Goals as goal
 

@@ -1,8 +1,4 @@
 -- `printing::sum_counts` meets its contract. The loop's invariant: so many numbers are summed.
-use Prim.Native.Nat.{◌-◌, ◌≤◌}
-use mathlib.Core.Path.{◌≡◌}
-use lib.ListN.{take}
-use Rattle.model.specs.Lists.{sum}
 use Rattle.printing.proofs.Sums.{sum_next, sum_within, sum_none, sum_all}
 use native.Mathlib.Omega.{arith}
 use Rattle.printing.proofs.sum_counts.Goals as goal

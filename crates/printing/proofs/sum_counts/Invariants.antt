@@ -3,8 +3,6 @@ use Prim.Native.Nat.{◌-◌, ◌≤◌}
 use mathlib.Core.Path.{◌≡◌}
 use lib.ListN.{take}
 use Rattle.model.specs.Lists.{sum}
-use Rattle.printing.proofs.Sums.{sum_next, sum_within, sum_none, sum_all}
-use native.Mathlib.Omega.{arith}
 use Rattle.printing.proofs.sum_counts.Given as goal
 
 abbrev pub invariant-loop-p : goal.invariant-loop-p

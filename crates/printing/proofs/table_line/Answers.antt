@@ -1,6 +1,5 @@
 -- `printing::table_line` meets its contract.
 use Rattle.printing.proofs.Lines.{row_told, reasons_line, check_line}
-use borrow.Author.Rules.{rules}
 use Rattle.printing.proofs.table_line.Goals as goal
 
 pub returns-then-reasons : goal.returns-then-reasons

@@ -1,5 +1,4 @@
 -- `prune::ambient_at` meets its contract.
-use borrow.Author.Rules.{rules}
 use borrow.Author.Tests.{not-true, not-false}
 use Rattle.prune.proofs.Picking.{ambient_low, ambient_high, ambient_apart, ambient_is}
 use Rattle.prune.proofs.ambient_at.Goals as goal

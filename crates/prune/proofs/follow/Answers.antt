@@ -1,10 +1,7 @@
 -- `prune::follow` meets its contract. The loop's invariant: from the stamps of any slice from which the queue is begun, the
 -- bodies of its first `j` definitions are followed.
 use native.Mathlib.Omega.{arith}
-use Prim.Native.Nat.{ℕ, ◌-◌}
-use mathlib.Core.List.{List}
-use Rattle.model.specs.Reading.{most_names}
-use Rattle.prune.proofs.Following.{QueueTo, queue_start, queue_next, queue_end}
+use Rattle.prune.proofs.Following.{queue_start, queue_next, queue_end}
 use Rattle.prune.proofs.Bodies.{body_small, readable, queued_record}
 use Rattle.prune.proofs.follow.Goals as goal
 

@@ -1,7 +1,6 @@
 -- `prune::follow_body` meets its contract. The loop's invariant: what is left to follow.
 use native.Mathlib.Omega.{arith}
-use Prim.Native.Nat.{◌-◌}
-use Rattle.prune.proofs.Bodies.{names_fit, BodyTo, body_start, body_name, body_next, body_end}
+use Rattle.prune.proofs.Bodies.{names_fit, body_start, body_name, body_next, body_end}
 use Rattle.prune.proofs.follow_body.Goals as goal
 
 pub overflow_add-i : goal.overflow_add-i

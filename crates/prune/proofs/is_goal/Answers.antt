@@ -1,5 +1,4 @@
 -- `prune::is_goal` meets its contract.
-use borrow.Author.Rules.{rules}
 use Rattle.prune.proofs.Picking.{goal_other, goal_root}
 use Rattle.prune.proofs.is_goal.Goals as goal
 

@@ -1,8 +1,6 @@
 -- `prune::list_added` meets its contract. The loop's invariant: what is left to list.
-use native.Mathlib.Omega.{arith}
 use Prim.Native.Nat.{◌-◌}
-use Rattle.prune.proofs.Writing.{going_length}
-use Rattle.prune.proofs.Groups.{KindTo, kind_start, kind_record, kind_skip, kind_take, kind_room, kind_end}
+use Rattle.prune.proofs.Groups.{KindTo}
 use Rattle.prune.proofs.list_added.Given as goal
 
 abbrev pub invariant-loop-j : goal.invariant-loop-j

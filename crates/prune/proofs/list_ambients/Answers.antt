@@ -1,10 +1,8 @@
 -- `prune::list_ambients` meets its contract. The loop's invariant: what is left to list.
 use native.Mathlib.Omega.{arith}
-use borrow.Author.Rules.{rules}
-use Rattle.prune.specs.Listing.{ambient_at}
 use Rattle.prune.proofs.Picking.{ambient_small}
 use Rattle.prune.proofs.Writing.{going_length}
-use Rattle.prune.proofs.Walking.{Falling, falling_start, falling_none, falling_one, falling_room, falling_end, ambients_off, ambients_listed, ambients_fit}
+use Rattle.prune.proofs.Walking.{falling_start, falling_none, falling_one, falling_room, falling_end, ambients_off, ambients_listed, ambients_fit}
 use Rattle.prune.proofs.list_ambients.Goals as goal
 
 pub returns-then-options : goal.returns-then-options

@@ -1,7 +1,7 @@
 -- `prune::list_kind` meets its contract. The loop's invariant: the stamps that are left.
 use native.Mathlib.Omega.{arith}
 use Rattle.prune.proofs.Writing.{going_length}
-use Rattle.prune.proofs.Stamps.{linked_apart, KindsTo, kinds_start, kinds_apart, kinds_room, kinds_next, kinds_end}
+use Rattle.prune.proofs.Stamps.{linked_apart, kinds_start, kinds_apart, kinds_room, kinds_next, kinds_end}
 use Rattle.prune.proofs.list_kind.Goals as goal
 
 pub loop-s-init : goal.loop-s-init

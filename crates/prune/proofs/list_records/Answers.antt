@@ -1,6 +1,5 @@
 -- `prune::list_records` meets its contract.
 use native.Mathlib.Omega.{arith}
-use borrow.Author.Rules.{rules}
 use borrow.Author.Tests.{not-true, not-false}
 use Rattle.prune.proofs.Writing.{lists_length}
 use Rattle.prune.proofs.Gathering.{few_facts, listed_facts, cleared_notes, facts_in, noted_notes, link_asks, decls_ask, listed_noted, follow_asks, sweep_asks, groups_ask, listed_followed}

@@ -1,8 +1,7 @@
 -- `prune::list_stamp` meets its contract. The loop's invariant: what is left of the chain.
 use native.Mathlib.Omega.{arith}
-use Rattle.prune.specs.Loops.{stamp_in}
 use Rattle.prune.proofs.Writing.{going_length}
-use Rattle.prune.proofs.Stamps.{ListedTo, chain_start, chain_less, chain_none, chain_one, chain_room, chain_end}
+use Rattle.prune.proofs.Stamps.{chain_start, chain_less, chain_none, chain_one, chain_room, chain_end}
 use Rattle.prune.proofs.list_stamp.Goals as goal
 
 pub overflow_sub-stamp : goal.overflow_sub-stamp

@@ -1,8 +1,6 @@
 -- `prune::list_stamp` meets its contract. The loop's invariant: what is left of the chain.
-use native.Mathlib.Omega.{arith}
 use Rattle.prune.specs.Loops.{stamp_in}
-use Rattle.prune.proofs.Writing.{going_length}
-use Rattle.prune.proofs.Stamps.{ListedTo, chain_start, chain_less, chain_none, chain_one, chain_room, chain_end}
+use Rattle.prune.proofs.Stamps.{ListedTo}
 use Rattle.prune.proofs.list_stamp.Given as goal
 
 abbrev pub invariant-loop-next : goal.invariant-loop-next

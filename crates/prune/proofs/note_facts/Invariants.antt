@@ -1,7 +1,6 @@
 -- `prune::note_facts` meets its contract. The loop's invariant: what is left to note.
-use native.Mathlib.Omega.{arith}
 use Prim.Native.Nat.{◌-◌}
-use Rattle.prune.proofs.Noting.{notes_then, FactsTo, facts_start, fact_there, facts_next, facts_end}
+use Rattle.prune.proofs.Noting.{FactsTo}
 use Rattle.prune.proofs.note_facts.Given as goal
 
 abbrev pub invariant-loop-j : goal.invariant-loop-j

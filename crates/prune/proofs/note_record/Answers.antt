@@ -1,7 +1,6 @@
 -- `prune::note_record` meets its contract. The loop's invariant: what is left to note.
 use native.Mathlib.Omega.{arith}
-use Prim.Native.Nat.{◌-◌}
-use Rattle.prune.proofs.Noting.{uses_place, use_word, NamesTo, names_start, names_next, names_end}
+use Rattle.prune.proofs.Noting.{uses_place, use_word, names_start, names_next, names_end}
 use Rattle.prune.proofs.note_record.Goals as goal
 
 pub overflow_add-i : goal.overflow_add-i

@@ -1,6 +1,5 @@
 -- `prune::queue_def` meets its contract.
 use native.Mathlib.Omega.{arith}
-use borrow.Author.Rules.{rules}
 use borrow.Author.Tests.{not-true, not-false}
 use Rattle.prune.proofs.Queueing.{def_none, def_one, def_taken}
 use Rattle.prune.proofs.queue_def.Goals as goal

@@ -1,9 +1,8 @@
 -- `prune::queue_noted` meets its contract. The loop's invariant: the queue has the definitions of the names below `n` with a
 -- stamp.
 use native.Mathlib.Omega.{arith}
-use Prim.Native.Nat.{◌-◌}
 use mathlib.Core.Path.{sym, ◌∙◌}
-use Rattle.prune.proofs.Queueing.{NotedTo, noted_start, noted_room, noted_skip, noted_put, noted_end}
+use Rattle.prune.proofs.Queueing.{noted_start, noted_room, noted_skip, noted_put, noted_end}
 use Rattle.prune.proofs.queue_noted.Goals as goal
 
 pub loop-n-init : goal.loop-n-init

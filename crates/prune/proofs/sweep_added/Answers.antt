@@ -1,10 +1,7 @@
 -- `prune::sweep_added` meets its contract. The loop's invariant: what is left to put in the column.
 use native.Mathlib.Omega.{arith}
-use Prim.Native.Nat.{◌-◌}
-use Rattle.prune.specs.Listing.{added_at}
-use Rattle.prune.specs.Loops.{queue_column, stamp_in}
 use Rattle.prune.proofs.Writing.{going_length}
-use Rattle.prune.proofs.Walking.{Rising, rising_start, rising_none, rising_one, rising_room, rising_end}
+use Rattle.prune.proofs.Walking.{rising_start, rising_none, rising_one, rising_room, rising_end}
 use Rattle.prune.proofs.Groups.{added_still, few_added}
 use Rattle.prune.proofs.sweep_added.Goals as goal
 

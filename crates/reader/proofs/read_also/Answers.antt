@@ -1,5 +1,4 @@
 -- `reader::read_also` meets its contract: by its number, and whether a field is left.
-use borrow.Author.Rules.{rules}
 use Rattle.reader.proofs.Saying.{also_refused, also_longer, also_asks}
 use Rattle.reader.proofs.read_also.Goals as goal
 

@@ -1,5 +1,4 @@
 -- `reader::read_ask` meets its contract: by its numbers, and whether a field is left.
-use borrow.Author.Rules.{rules}
 use Rattle.filing.proofs.Saying.{number_placed}
 use Rattle.reader.proofs.Saying.{counts_grouped, counts_plain, asks_not, asks_options_not, asks_groups_not, asks_more, asks_is}
 use Rattle.reader.proofs.read_ask.Goals as goal

@@ -2,7 +2,6 @@
 use Rattle.filing.proofs.Recording.{line_not, line_said}
 use Rattle.reader.proofs.Lifting.{ask_read, term_read}
 use Rattle.reader.proofs.Lines.{kind_ask, kind_also, kind_hide, kind_term, kind_record, kind_none}
-use borrow.Author.Rules.{rules}
 use Rattle.reader.proofs.read_kind.Goals as goal
 
 pub read_ask-requires : goal.read_ask-requires

@@ -2,7 +2,6 @@
 use Rattle.model.specs.declared.Refusal.TheVariants as refusal
 use Rattle.filing.proofs.Recording.{line_not, line_said}
 use Rattle.reader.proofs.Lines.{fields_first, field_there, field_placed, not_true, not_false, parse_on, parse_count, placing, form_counted, terms_counted, ask_fits, also_fits}
-use borrow.Author.Rules.{rules}
 use Rattle.reader.proofs.read_line.Goals as goal
 
 pub field-requires : goal.field-requires

@@ -1,9 +1,7 @@
 -- `reasons::lists_name` meets its contract. The loop's invariant: the entries that are left have the answer.
-use Prim.Native.Nat.{◌-◌}
 use native.Mathlib.Omega.{arith}
-use mathlib.Core.Path.{◌≡◌, sym, ◌∙◌}
-use Rattle.reasons.specs.Rows.{lists_name}
-use Rattle.reasons.proofs.Listed.{listed_from, listed_start, listed_here, listed_next, listed_end}
+use mathlib.Core.Path.{sym, ◌∙◌}
+use Rattle.reasons.proofs.Listed.{listed_start, listed_here, listed_next, listed_end}
 use Rattle.reasons.proofs.lists_name.Goals as goal
 
 pub overflow_add-i : goal.overflow_add-i

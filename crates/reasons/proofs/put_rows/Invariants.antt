@@ -1,8 +1,7 @@
 -- `reasons::put_rows` meets its contract. The loop's invariant: the rows of the ranks that are left are still to be put.
 use Prim.Native.Nat.{◌-◌}
-use native.Mathlib.Omega.{arith}
-use Rattle.prune.proofs.Rows.{RowsTo, rows_start, rows_length_same, rows_end}
-use Rattle.reasons.proofs.Laws.{explainable_after, reached_rows, reached_below, reached_passed, reached_room, reached_put, all_ranks, all_fit, rows_put}
+use Rattle.prune.proofs.Rows.{RowsTo}
+use Rattle.reasons.proofs.Laws.{reached_rows}
 use Rattle.reasons.proofs.put_rows.Given as goal
 
 abbrev pub invariant-loop-r : goal.invariant-loop-r

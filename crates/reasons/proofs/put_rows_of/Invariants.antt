@@ -1,11 +1,7 @@
 -- `reasons::put_rows_of` meets its contract. The loop's invariant: the rows of the ranks that are left are still to be put.
 use Prim.Native.Nat.{◌-◌}
-use native.Mathlib.Omega.{arith}
-use borrow.Author.Tests.{not-true, not-false}
-use Rattle.prune.proofs.Picking.{number_in}
-use Rattle.reasons.proofs.Listed.{entries_in}
-use Rattle.prune.proofs.Rows.{RowsTo, rows_start, rows_length_same, rows_end}
-use Rattle.reasons.proofs.Laws.{rank_rows, rows_ranks, rank_passed, rank_room, rank_put, supplier_in}
+use Rattle.prune.proofs.Rows.{RowsTo}
+use Rattle.reasons.proofs.Laws.{rank_rows}
 use Rattle.reasons.proofs.put_rows_of.Given as goal
 
 abbrev pub invariant-loop-r : goal.invariant-loop-r

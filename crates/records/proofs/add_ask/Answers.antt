@@ -2,7 +2,6 @@
 use native.Mathlib.Omega.{arith}
 use mathlib.Core.Path.{refl}
 use lib.ListN.{length-set}
-use borrow.Author.Rules.{rules}
 use Rattle.records.proofs.Asking.{ask_put}
 use Rattle.records.proofs.add_ask.Goals as goal
 

@@ -4,7 +4,6 @@ use Rattle.model.specs.Outcome.{working_words}
 use Rattle.records.specs.Adding.{full}
 use Rattle.records.proofs.Funs.{row_past, small_row, untouched}
 use Rattle.records.proofs.Uses.{gathered_uses, gathered_over, gathered_past, past_taken, def_repeated, def_crowded, def_over, def_added}
-use borrow.Author.Rules.{rules}
 use Rattle.words.proofs.Slices.{same_self}
 use Rattle.records.proofs.add_def.Goals as goal
 

@@ -2,7 +2,6 @@
 use native.Mathlib.Omega.{arith}
 use Rattle.records.specs.Adding.{full}
 use Rattle.records.proofs.Funs.{small_row, untouched, fun_repeated, fun_crowded, fun_added, fun_past}
-use borrow.Author.Rules.{rules}
 use Rattle.records.proofs.add_fun.Goals as goal
 
 pub returns-then-k-gt-MOST_NAMES : goal.returns-then-k-gt-MOST_NAMES

@@ -3,7 +3,6 @@ use native.Mathlib.Omega.{arith}
 use Rattle.records.specs.Adding.{full}
 use Rattle.records.proofs.Funs.{untouched, small_row}
 use Rattle.records.proofs.Hiding.{few_hides, hide_crowded, hide_added, hide_past}
-use borrow.Author.Rules.{rules}
 use Rattle.records.proofs.add_hide.Goals as goal
 
 pub returns-then-k-gt-MOST_NAMES : goal.returns-then-k-gt-MOST_NAMES

@@ -4,7 +4,6 @@ use Rattle.model.specs.Outcome.{working_words}
 use Rattle.words.proofs.Slices.{same_self}
 use Rattle.records.specs.Adding.{full}
 use Rattle.records.proofs.Funs.{untouched, row_past, small_row, retain_crowded, retain_added}
-use borrow.Author.Rules.{rules}
 use Rattle.records.proofs.add_retain.Goals as goal
 
 pub returns-then-k-gt-MOST_NAMES : goal.returns-then-k-gt-MOST_NAMES

@@ -5,7 +5,6 @@ use Rattle.words.proofs.Slices.{same_self}
 use Rattle.records.specs.Adding.{full}
 use Rattle.records.proofs.Funs.{row_past, small_row, untouched}
 use Rattle.records.proofs.Uses.{gathered_uses, gathered_over, gathered_past, root_crowded, root_over, root_added}
-use borrow.Author.Rules.{rules}
 use Rattle.records.proofs.add_root.Goals as goal
 
 pub returns-then-k-gt-MOST_NAMES : goal.returns-then-k-gt-MOST_NAMES

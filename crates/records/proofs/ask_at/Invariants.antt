@@ -1,9 +1,7 @@
 -- `records::ask_at` meets its contract. The loop's invariant: the chain starts where that of the position reached does.
 use Prim.Native.Nat.{◌≤◌}
-use native.Mathlib.Omega.{arith}
-use mathlib.Core.Path.{◌≡◌, refl}
+use mathlib.Core.Path.{◌≡◌}
 use Rattle.records.specs.States.{first_at}
-use Rattle.records.proofs.Chains.{walk_on, walk_ends}
 use Rattle.records.proofs.ask_at.Given as goal
 
 abbrev pub invariant-loop-first : goal.invariant-loop-first

@@ -1,10 +1,6 @@
 -- `records::asks_for` meets its contract. The loop's invariant: the queries not looked at decide.
-use Prim.Native.Nat.{◌≤◌}
 use native.Mathlib.Omega.{arith}
-use mathlib.Core.Path.{◌≡◌, refl, sym, ◌∙◌}
-use lib.Dec.{eqb}
-use Rattle.model.specs.Lists.{any}
-use Rattle.records.specs.States.{queries_of}
+use mathlib.Core.Path.{refl, sym, ◌∙◌}
 use Rattle.records.proofs.Chains.{asked_for, query_is, query_other, none_asked}
 use Rattle.records.proofs.asks_for.Goals as goal
 

@@ -1,11 +1,9 @@
 -- `records::asks_for` meets its contract. The loop's invariant: the queries not looked at decide.
 use Prim.Native.Nat.{◌≤◌}
-use native.Mathlib.Omega.{arith}
-use mathlib.Core.Path.{◌≡◌, refl, sym, ◌∙◌}
+use mathlib.Core.Path.{◌≡◌}
 use lib.Dec.{eqb}
 use Rattle.model.specs.Lists.{any}
 use Rattle.records.specs.States.{queries_of}
-use Rattle.records.proofs.Chains.{asked_for, query_is, query_other, none_asked}
 use Rattle.records.proofs.asks_for.Given as goal
 
 abbrev pub invariant-loop-i : goal.invariant-loop-i

@@ -1,5 +1,4 @@
 -- `records::is_also` meets its contract.
-use borrow.Author.Rules.{rules}
 use Rattle.records.proofs.Chains.{first_asks, also_by}
 use Rattle.records.proofs.is_also.Goals as goal
 

@@ -1,8 +1,5 @@
 -- `records::put_row` meets its contract. The loop's invariant: what is left to write comes to the row.
-use Prim.Native.Nat.{◌-◌, ◌≤◌}
-use mathlib.Core.Path.{◌≡◌, refl, sym, ◌∙◌}
-use lib.ListN.{length, drop}
-use Rattle.records.specs.Writing.{put_row}
+use mathlib.Core.Path.{refl, sym, ◌∙◌}
 use Rattle.records.proofs.Rows.{put_on, put_end}
 use borrow.Author.Rules.{rules}
 use native.Mathlib.Omega.{arith}

@@ -1,11 +1,8 @@
 -- `records::put_row` meets its contract. The loop's invariant: what is left to write comes to the row.
 use Prim.Native.Nat.{◌-◌, ◌≤◌}
-use mathlib.Core.Path.{◌≡◌, refl, sym, ◌∙◌}
+use mathlib.Core.Path.{◌≡◌}
 use lib.ListN.{length, drop}
 use Rattle.records.specs.Writing.{put_row}
-use Rattle.records.proofs.Rows.{put_on, put_end}
-use borrow.Author.Rules.{rules}
-use native.Mathlib.Omega.{arith}
 use Rattle.records.proofs.put_row.Given as goal
 
 abbrev pub invariant-loop-c : goal.invariant-loop-c

@@ -1,5 +1,4 @@
 -- `records::takes_part` meets its contract.
-use borrow.Author.Rules.{rules}
 use Rattle.records.proofs.Taking.{no_part, part_by}
 use Rattle.records.proofs.takes_part.Goals as goal
 

@@ -1,6 +1,4 @@
 -- `records::with_hide` meets its contract.
-use native.Mathlib.Omega.{arith}
-use borrow.Author.Rules.{rules}
 use Rattle.records.proofs.with_hide.Goals as goal
 
 pub returns : goal.returns

@@ -1,5 +1,4 @@
 -- `row_printing::print_named` is safe and ends.
-use borrow.Author.Rules.{rules}
 use native.Mathlib.Omega.{arith}
 use Rattle.row_printing.proofs.print_named.Goals as goal
 

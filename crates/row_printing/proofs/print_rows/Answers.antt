@@ -1,6 +1,5 @@
 -- `row_printing::print_rows` is safe and ends.
 use Rattle.front.proofs.Laws.{opened_file}
-use borrow.Author.Rules.{rules}
 use Rattle.row_printing.proofs.print_rows.Goals as goal
 
 pub print_named-requires : goal.print_named-requires

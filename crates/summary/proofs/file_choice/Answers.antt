@@ -2,7 +2,6 @@
 use native.Mathlib.Omega.{arith}
 use Rattle.summary.proofs.Sorting.{begun_opened}
 use Rattle.summary.proofs.Choosing.{within_one, within_two, within_groups, within_refinement, within_token, within_parts, choose_one, choose_two, choose_groups, choose_refinement, choose_token, choose_nothing, choose_parts, choose_drop, choose_ambient}
-use borrow.Author.Rules.{rules}
 use Rattle.summary.proofs.file_choice.Goals as goal
 
 pub file_term-requires : goal.file_term-requires

@@ -1,7 +1,6 @@
 -- `summary::file_parts` meets its contract: the terms that an `and` names are those of its reference words.
 use native.Mathlib.Omega.{arith}
 use Rattle.summary.proofs.Sorting.{begun_opened, parts_asks, parts_sorts}
-use borrow.Author.Rules.{rules}
 use Rattle.summary.proofs.file_parts.Goals as goal
 
 pub triggers_of_list-requires : goal.triggers_of_list-requires

@@ -2,7 +2,6 @@
 use native.Mathlib.Omega.{arith}
 use Rattle.gather.proofs.Walking.{rows_marked}
 use Rattle.summary.proofs.Sorting.{begun_opened, begun_then, refinement_empty, refinement_more}
-use borrow.Author.Rules.{rules}
 use Rattle.summary.proofs.file_refinement.Goals as goal
 
 pub is_empty-requires : goal.is_empty-requires

@@ -3,7 +3,6 @@ use native.Mathlib.Omega.{arith}
 use borrow.Author.Tests.{not-false, not-true}
 use Rattle.model.specs.Names.{bytes}
 use Rattle.summary.proofs.Token.{token_inside, token_ends, token_asks, token_one, token_over, token_known_small, token_new_small, token_known, token_new, token_full}
-use borrow.Author.Rules.{rules}
 use Rattle.summary.proofs.file_token.Goals as goal
 
 pub overflow_add-e : goal.overflow_add-e

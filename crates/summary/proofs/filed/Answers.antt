@@ -1,7 +1,6 @@
 -- `summary::filed` meets its contract: the disjuncts that were filed are a kind.
 use mathlib.Core.Path.{sym, ap}
 use Rattle.summary.specs.Steps.{sorted_of}
-use borrow.Author.Rules.{rules}
 use Rattle.summary.proofs.filed.Goals as goal
 
 pub returns-in-Sets : goal.returns-in-Sets

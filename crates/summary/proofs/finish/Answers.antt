@@ -2,7 +2,6 @@
 use native.Mathlib.Omega.{arith}
 use mathlib.Core.Path.{sym, ap}
 use Rattle.summary.specs.Steps.{finished}
-use borrow.Author.Rules.{rules}
 use Rattle.summary.proofs.finish.Goals as goal
 
 pub overflow_cast-mark : goal.overflow_cast-mark

@@ -3,7 +3,6 @@ use native.Mathlib.Omega.{arith}
 use mathlib.Core.Path.{refl}
 use lib.ListN.{length-set}
 use Rattle.summary.specs.Steps.{both, over}
-use borrow.Author.Rules.{rules}
 use Rattle.summary.proofs.put_two.Goals as goal
 
 pub returns-then-at-ge-ENTRIES_END : goal.returns-then-at-ge-ENTRIES_END

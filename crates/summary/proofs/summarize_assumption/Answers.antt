@@ -2,7 +2,6 @@
 use native.Mathlib.Omega.{arith}
 use mathlib.Core.Path.{refl}
 use Rattle.summary.proofs.Finishing.{chooses_is, asked_begun, filed_ends, finish_asks, finish_law, over_law}
-use borrow.Author.Rules.{rules}
 use Rattle.summary.proofs.summarize_assumption.Goals as goal
 
 pub file_choice-requires : goal.file_choice-requires

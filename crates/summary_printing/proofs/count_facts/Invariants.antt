@@ -1,9 +1,6 @@
 -- `summary_printing::count_facts` is safe and ends. The loop's invariant: the facts are at most as many as the records passed.
 use Rattle.model.specs.Reading.{most_records}
-use mathlib.Core.Logic.{⊎_elim}
 use Prim.Native.Nat.{◌-◌, ◌≤◌}
-use borrow.Author.Rules.{rules}
-use native.Mathlib.Omega.{arith}
 use Rattle.summary_printing.proofs.count_facts.Given as goal
 
 abbrev pub invariant-loop-i : goal.invariant-loop-i

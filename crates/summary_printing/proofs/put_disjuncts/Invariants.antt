@@ -1,6 +1,5 @@
 -- `summary_printing::put_disjuncts` is safe and ends. The loop's invariant: the place is not before the first.
 use Prim.Native.Nat.{◌-◌, ◌≤◌}
-use borrow.Author.Rules.{rules}
 use Rattle.summary_printing.proofs.put_disjuncts.Given as goal
 
 abbrev pub invariant-loop-i : goal.invariant-loop-i

@@ -1,8 +1,5 @@
 -- `summary_printing::put_facts` is safe and ends. The loop's invariant: the number is at most how many records there are.
 use Prim.Native.Nat.{◌-◌, ◌≤◌}
-use mathlib.Core.Path.{◌∙◌, sym}
-use Rattle.summary_printing.proofs.Laws.{printable}
-use borrow.Author.Rules.{rules}
 use Rattle.summary_printing.proofs.put_facts.Given as goal
 
 abbrev pub invariant-loop-i : goal.invariant-loop-i

@@ -1,6 +1,5 @@
 -- `summary_printing::put_set` is safe and ends. The loop's invariant: the rank is at most how many names there are.
 use Prim.Native.Nat.{◌-◌, ◌≤◌}
-use borrow.Author.Rules.{rules}
 use Rattle.summary_printing.proofs.put_set.Given as goal
 
 abbrev pub invariant-loop-r : goal.invariant-loop-r

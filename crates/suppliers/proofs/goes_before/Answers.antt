@@ -1,5 +1,4 @@
 -- `suppliers::goes_before` meets its contract.
-use borrow.Author.Rules.{rules}
 use mathlib.Core.Path.{sym}
 use Rattle.suppliers.proofs.Noting.{before_none}
 use Rattle.suppliers.proofs.Passing.{before_line}

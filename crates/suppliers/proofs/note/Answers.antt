@@ -1,6 +1,5 @@
 -- `suppliers::note` meets its contract.
 use native.Mathlib.Omega.{arith}
-use borrow.Author.Rules.{rules}
 use borrow.Author.Tests.{not-true, not-false}
 use Rattle.suppliers.proofs.Passing.{note_unmet, note_late, note_behind, note_set}
 use Rattle.suppliers.proofs.note.Goals as goal

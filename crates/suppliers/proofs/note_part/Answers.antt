@@ -1,8 +1,7 @@
 -- `suppliers::note_part` meets its contract. The loop's invariant: what is left to note comes to the whole.
-use Prim.Native.Nat.{◌-◌}
 use native.Mathlib.Omega.{arith}
 use mathlib.Core.Path.{sym, ◌∙◌}
-use Rattle.suppliers.proofs.Passing.{Left, itself, one_note, left_start, left_next, part_end}
+use Rattle.suppliers.proofs.Passing.{one_note, left_start, left_next, part_end}
 use Rattle.suppliers.proofs.note_part.Goals as goal
 
 pub loop-j-init : goal.loop-j-init

@@ -1,10 +1,9 @@
 -- `suppliers::note_record` meets its contract. The loop's invariant: what is left to note comes to the whole.
 use Prim.Native.Nat.{◌-◌}
-use native.Mathlib.Omega.{arith}
 use mathlib.Core.List.{◌∷◌}
 use Rattle.records.specs.Columns.{macro_at}
 use Rattle.macros.specs.Macros.{opens_at}
-use Rattle.suppliers.proofs.Passing.{Left, left_start, left_next, uses_end_noted, record_small, uses_within, noted_on, noted_both}
+use Rattle.suppliers.proofs.Passing.{Left}
 use Rattle.suppliers.proofs.note_record.Given as goal
 
 abbrev pub invariant-loop-j : goal.invariant-loop-j

@@ -1,5 +1,4 @@
 -- `suppliers::was_scanned` meets its contract.
-use borrow.Author.Rules.{rules}
 use Rattle.suppliers.proofs.Passing.{scanned_first, scanned_later}
 use Rattle.suppliers.proofs.was_scanned.Goals as goal
 

@@ -1,15 +1,11 @@
 -- `sweep::list_asks` meets its contract. The loop's invariant: the answer and the lists are those of the positions passed.
-use Prim.Native.Nat.{◌+◌, ◌-◌, ◌≤◌, ◌<◌}
-use native.Mathlib.Omega.{arith}
-use mathlib.Core.Path.{◌≡◌, refl}
-use Rattle.model.specs.Reading.{most_records, most_asks}
+use Prim.Native.Nat.{◌-◌, ◌≤◌}
+use mathlib.Core.Path.{◌≡◌}
 use Rattle.model.specs.Outcome.{working_words}
 use Rattle.words.specs.Slices.{SameBut}
-use Rattle.words.proofs.Slices.{same_self, same_then}
 use Rattle.filter.specs.Call.{positions_of}
 use Rattle.sweep.specs.Call.{passes_before}
-use Rattle.sweep.proofs.Laws.{ListsOn, lists_first, lists_next, lists_on, lists_last}
-use Rattle.sweep.proofs.Answers.{sweeps_on, positions_none, positions_next}
+use Rattle.sweep.proofs.Laws.{ListsOn}
 use Rattle.sweep.proofs.list_asks.Given as goal
 
 abbrev pub invariant-loop-i : goal.invariant-loop-i

@@ -1,6 +1,5 @@
 -- `sweep::settle` meets its contract.
 use native.Mathlib.Omega.{arith}
-use borrow.Author.Rules.{rules}
 use Rattle.sweep.proofs.Laws.{settle_8, settle_list}
 use Rattle.sweep.proofs.settle.Goals as goal
 

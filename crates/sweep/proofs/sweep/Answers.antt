@@ -1,6 +1,6 @@
 -- `sweep::sweep` meets its contract.
-use Rattle.front.proofs.Slices.{rest_long, rest_then, six_lengths}
-use Rattle.front.proofs.Laws.{opened_file, refused_file, closed_file, rest_work, rest_closed}
+use Rattle.front.proofs.Slices.{rest_long, rest_then}
+use Rattle.front.proofs.Laws.{opened_file, refused_file, closed_file, rest_work}
 use Rattle.sweep.proofs.Answers.{open_sweeps, open_gives, refused_exact}
 use Rattle.sweep.proofs.Demands.{promise}
 use Rattle.sweep.proofs.sweep.Goals as goal

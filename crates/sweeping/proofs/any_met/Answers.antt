@@ -1,9 +1,6 @@
 -- `sweeping::any_met` meets its contract. The loop's invariant: what is left to look at has the answer.
-use Prim.Native.Nat.{◌-◌, ◌≤◌}
 use native.Mathlib.Omega.{arith}
-use mathlib.Core.Path.{◌≡◌, refl, sym, ◌∙◌}
-use Rattle.model.specs.Lists.{any, part}
-use Rattle.sweeping.specs.Sweeping.{name_met}
+use mathlib.Core.Path.{refl, sym, ◌∙◌}
 use Rattle.sweeping.proofs.Entries.{none_left, past_none, past_unmet, at_met}
 use Rattle.sweeping.proofs.any_met.Goals as goal
 

@@ -1,10 +1,9 @@
 -- `sweeping::meet_first` meets its contract. The loop's invariant: the names of the records so far that start are met.
-use Prim.Native.Nat.{◌-◌}
 use native.Mathlib.Omega.{arith}
 use mathlib.Core.Path.{refl, ◌∙◌}
 use borrow.Author.Tests.{not-true, not-false}
-use Rattle.firing.specs.Tables.{held_of, starts_at}
-use Rattle.sweeping.proofs.Loops.{Meeting, meet_start, meet_skip, meet_next, first_names}
+use Rattle.firing.specs.Tables.{held_of}
+use Rattle.sweeping.proofs.Loops.{meet_start, meet_skip, meet_next, first_names}
 use Rattle.sweeping.proofs.meet_first.Goals as goal
 
 pub clear-requires : goal.clear-requires

@@ -1,12 +1,11 @@
 -- `sweeping::pass` meets its contract. The loop's invariant: the records so far are passed.
-use Prim.Native.Nat.{◌-◌}
 use native.Mathlib.Omega.{arith}
 use mathlib.Core.Path.{refl}
 use lib.ListN.{length-set}
 use borrow.Author.Tests.{not-true, not-false}
 use Rattle.firing.specs.Tables.{held_of}
 use Rattle.sweeping.proofs.Entries.{adds_exact}
-use Rattle.sweeping.proofs.Loops.{Passing, pass_start, pass_skip, pass_next, pass_end}
+use Rattle.sweeping.proofs.Loops.{pass_start, pass_skip, pass_next, pass_end}
 use Rattle.sweeping.proofs.pass.Goals as goal
 
 pub loop-next-init : goal.loop-next-init

@@ -1,12 +1,7 @@
 -- `sweeping::sweep_ask` meets its contract. Each pass but the last adds a record: those not reached are fewer.
-use native.Mathlib.Omega.{arith}
-use mathlib.Core.Path.{◌∙◌}
-use borrow.Author.Tests.{not-true, not-false}
 use Rattle.firing.specs.Tables.{held_of}
 use Rattle.firing.specs.Met.{unreached}
-use Rattle.firing.proofs.Joining.{laid}
-use Rattle.sweeping.proofs.Loops.{first_length, SweepingOn, on_start, on_length, on_less, on_next, on_end, on_few}
-use Rattle.sweeping.proofs.Tying.{swept_from}
+use Rattle.sweeping.proofs.Loops.{SweepingOn}
 use Rattle.sweeping.proofs.sweep_ask.Given as goal
 
 abbrev pub invariant-loop-k : goal.invariant-loop-k

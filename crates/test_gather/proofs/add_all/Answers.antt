@@ -3,7 +3,6 @@ use Prim.Native.Nat.{◌+◌}
 use native.Mathlib.Omega.{arith}
 use mathlib.Core.Path.{refl}
 use Rattle.test_gather.proofs.Laws.{table_to, table_patterns, table_added}
-use borrow.Author.Rules.{rules}
 use Rattle.test_gather.proofs.add_all.Goals as goal
 
 pub add_all-requires : goal.add_all-requires

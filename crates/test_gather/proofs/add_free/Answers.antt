@@ -1,6 +1,5 @@
 -- `test_gather::add_free` meets its contract.
 use Rattle.test_gather.proofs.Laws.{table_added}
-use borrow.Author.Rules.{rules}
 use Rattle.test_gather.proofs.add_free.Goals as goal
 
 pub returns : goal.returns

@@ -1,6 +1,5 @@
 -- `test_gather::add_row_of` meets its contract.
 use Rattle.test_gather.proofs.Laws.{table_added}
-use borrow.Author.Rules.{rules}
 use Rattle.test_gather.proofs.add_row_of.Goals as goal
 
 pub returns-then-head-lt2048 : goal.returns-then-head-lt2048

@@ -1,9 +1,6 @@
 -- `test_gather::add_rows` meets its contract. The loop's invariant: the rows so far are a table, with at most two references each.
-use Prim.Native.Nat.{◌-◌, ◌*◌, ◌≤◌}
-use mathlib.Core.Path.{◌≡◌, refl}
-use lib.ListN.{length}
+use mathlib.Core.Path.{refl}
 use native.Mathlib.Omega.{arith}
-use Rattle.test_gather.specs.Tables.{UnmarkedTable}
 use Rattle.test_gather.proofs.Laws.{table_to}
 use borrow.Author.Rules.{rules}
 use Rattle.test_gather.proofs.add_rows.Goals as goal

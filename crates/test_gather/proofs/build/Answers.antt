@@ -1,7 +1,6 @@
 -- `test_gather::build` meets its contract.
 use native.Mathlib.Omega.{arith}
 use Rattle.test_gather.proofs.Laws.{no_rows}
-use borrow.Author.Rules.{rules}
 use Rattle.test_gather.proofs.build.Goals as goal
 
 pub add_free-requires : goal.add_free-requires

@@ -1,9 +1,6 @@
 -- `test_gather::push_times` meets its contract. The loop's invariant: so many references are pushed.
-use Prim.Native.Nat.{◌+◌, ◌-◌, ◌≤◌}
-use mathlib.Core.Path.{◌≡◌, refl}
-use lib.ListN.{length}
+use mathlib.Core.Path.{refl}
 use native.Mathlib.Omega.{arith}
-use Rattle.test_gather.specs.Tables.{UnmarkedTable}
 use Rattle.test_gather.proofs.Laws.{table_to, table_pushed}
 use borrow.Author.Rules.{rules}
 use Rattle.test_gather.proofs.push_times.Goals as goal

@@ -1,7 +1,6 @@
 -- `test_gather::run` is safe and ends.
 use native.Mathlib.Omega.{arith}
 use Rattle.test_gather.proofs.Laws.{zeros_blank, set_blank}
-use borrow.Author.Rules.{rules}
 use Rattle.test_gather.proofs.run.Goals as goal
 
 pub build-size-requires : goal.build-size-requires

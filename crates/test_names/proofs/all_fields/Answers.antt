@@ -1,10 +1,6 @@
 -- `test_names::all_fields` meets its contract. The loop's invariant: the names so far are a table, and the cursor stands in the file.
-use Prim.Native.Nat.{◌+◌, ◌-◌}
-use mathlib.Core.Path.{◌≡◌, refl, sym, ◌∙◌}
-use lib.ListN.{length}
-use Rattle.text.specs.Parts.{Placed}
+use mathlib.Core.Path.{refl, sym, ◌∙◌}
 use Rattle.text.proofs.Laws.{field_next}
-use Rattle.names.specs.Table.{Table}
 use native.Mathlib.Omega.{arith}
 use Rattle.test_names.proofs.all_fields.Goals as goal
 

@@ -1,11 +1,9 @@
 -- `test_names::all_fields` meets its contract. The loop's invariant: the names so far are a table, and the cursor stands in the file.
 use Prim.Native.Nat.{◌+◌, ◌-◌}
-use mathlib.Core.Path.{◌≡◌, refl, sym, ◌∙◌}
+use mathlib.Core.Path.{◌≡◌}
 use lib.ListN.{length}
 use Rattle.text.specs.Parts.{Placed}
-use Rattle.text.proofs.Laws.{field_next}
 use Rattle.names.specs.Table.{Table}
-use native.Mathlib.Omega.{arith}
 use Rattle.test_names.proofs.all_fields.Given as goal
 
 abbrev pub invariant-loop-c : goal.invariant-loop-c

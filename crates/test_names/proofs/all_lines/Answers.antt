@@ -1,10 +1,6 @@
 -- `test_names::all_lines` is safe and ends. The loop's invariant: the names so far are a table.
-use Prim.Native.Nat.{◌-◌}
-use mathlib.Core.Path.{◌≡◌, refl}
-use lib.ListN.{length}
+use mathlib.Core.Path.{refl}
 use Rattle.text.proofs.Laws.{mark_from, mark_to}
-use Rattle.names.specs.Table.{Table}
-use borrow.Author.Rules.{rules}
 use native.Mathlib.Omega.{arith}
 use Rattle.test_names.proofs.all_lines.Goals as goal
 

@@ -1,11 +1,8 @@
 -- `test_names::all_lines` is safe and ends. The loop's invariant: the names so far are a table.
 use Prim.Native.Nat.{◌-◌}
-use mathlib.Core.Path.{◌≡◌, refl}
+use mathlib.Core.Path.{◌≡◌}
 use lib.ListN.{length}
-use Rattle.text.proofs.Laws.{mark_from, mark_to}
 use Rattle.names.specs.Table.{Table}
-use borrow.Author.Rules.{rules}
-use native.Mathlib.Omega.{arith}
 use Rattle.test_names.proofs.all_lines.Given as goal
 
 abbrev pub invariant-loop-from : goal.invariant-loop-from

@@ -1,7 +1,6 @@
 -- `test_names::field_and_token` meets its contract.
 use native.Mathlib.Omega.{arith}
 use Rattle.test_names.proofs.Laws.{grown_table}
-use borrow.Author.Rules.{rules}
 use Rattle.test_names.proofs.field_and_token.Goals as goal
 
 pub returns : goal.returns

@@ -1,6 +1,5 @@
 -- `test_names::grown` meets its contract.
 use Rattle.test_names.specs.Counts.{count_after}
-use borrow.Author.Rules.{rules}
 use Rattle.test_names.proofs.grown.Goals as goal
 
 pub returns-in-Known : goal.returns-in-Known

@@ -2,7 +2,6 @@
 use native.Mathlib.Omega.{arith}
 use lib.ListN.{length-take}
 use Rattle.names.proofs.Laws.{empty_table}
-use borrow.Author.Rules.{rules}
 use Rattle.test_names.proofs.main.Goals as goal
 
 pub all_lines-requires : goal.all_lines-requires

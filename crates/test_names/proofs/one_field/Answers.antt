@@ -1,7 +1,6 @@
 -- `test_names::one_field` meets its contract.
 use mathlib.Core.Path.{sym, ◌∙◌}
 use Rattle.test_names.proofs.Laws.{name_within, grown_table}
-use borrow.Author.Rules.{rules}
 use Rattle.test_names.proofs.one_field.Goals as goal
 
 pub spell-s-requires : goal.spell-s-requires

@@ -1,6 +1,5 @@
 -- `test_names::one_line` meets its contract.
 use Rattle.names.proofs.Laws.{empty_table}
-use borrow.Author.Rules.{rules}
 use Rattle.test_names.proofs.one_line.Goals as goal
 
 pub returns-then-same_text : goal.returns-then-same_text

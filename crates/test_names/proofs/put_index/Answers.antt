@@ -1,6 +1,4 @@
 -- `test_names::put_index` is safe and ends. The loop's invariant: `r` is at most how many names there are.
-use Prim.Native.Nat.{◌≤◌, ◌-◌}
-use borrow.Author.Rules.{rules}
 use Rattle.test_names.proofs.put_index.Goals as goal
 
 pub put_name-requires : goal.put_name-requires

@@ -1,6 +1,5 @@
 -- `test_names::put_index` is safe and ends. The loop's invariant: `r` is at most how many names there are.
 use Prim.Native.Nat.{◌≤◌, ◌-◌}
-use borrow.Author.Rules.{rules}
 use Rattle.test_names.proofs.put_index.Given as goal
 
 abbrev pub invariant-loop-r : goal.invariant-loop-r

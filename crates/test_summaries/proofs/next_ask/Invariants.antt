@@ -1,9 +1,6 @@
 -- `test_summaries::next_ask` meets its contract. The loop's invariant: the position is past the start.
 use Prim.Native.Nat.{◌-◌, ◌≤◌}
 use lib.ListN.{length}
-use Rattle.text.proofs.Laws.{mark_from, mark_to}
-use borrow.Author.Rules.{rules}
-use native.Mathlib.Omega.{arith}
 use Rattle.test_summaries.proofs.next_ask.Given as goal
 
 abbrev pub invariant-loop-from : goal.invariant-loop-from

@@ -1,6 +1,5 @@
 -- `test_summaries::one_file` is safe and ends.
 use Rattle.test_summaries.proofs.Laws.{zeros_cleared, read_filled}
-use borrow.Author.Rules.{rules}
 use Rattle.test_summaries.proofs.one_file.Goals as goal
 
 pub read_file-requires : goal.read_file-requires

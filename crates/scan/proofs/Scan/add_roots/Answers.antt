@@ -1,9 +1,7 @@
 -- `scan::Scan::add_roots` meets its contract. The loop's invariant: the records so far are on the worklist.
-use Prim.Native.Nat.{◌-◌}
 use native.Mathlib.Omega.{arith}
 use borrow.Author.Tests.{not-true, not-false}
-use Rattle.firing.specs.Tables.{starts_at}
-use Rattle.scan.proofs.Starting.{Adding, add_start, add_skip, add_next, add_end}
+use Rattle.scan.proofs.Starting.{add_start, add_skip, add_next, add_end}
 use Rattle.scan.proofs.Scan.add_roots.Goals as goal
 
 pub loop-i-init : goal.loop-i-init

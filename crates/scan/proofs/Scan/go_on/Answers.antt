@@ -1,9 +1,6 @@
 -- `scan::Scan::go_on` meets its contract. Each round but the last meets a name: the names not met are fewer.
 use borrow.Author.Tests.{not-true, not-false}
-use Rattle.firing.specs.Tables.{held_of}
-use Rattle.firing.specs.Met.{unmet}
-use Rattle.scan.specs.Steps.{going}
-use Rattle.scan.proofs.Phases.{GoingOn, on_start, on_next, on_less, on_end, on_length}
+use Rattle.scan.proofs.Phases.{on_start, on_next, on_less, on_end, on_length}
 use Rattle.scan.proofs.Scan.go_on.Goals as goal
 
 pub loop-s-init : goal.loop-s-init

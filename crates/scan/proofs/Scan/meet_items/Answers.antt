@@ -1,8 +1,6 @@
 -- `scan::Scan::meet_items` meets its contract. The loop's invariant: the items so far are met.
-use Prim.Native.Nat.{◌-◌}
 use native.Mathlib.Omega.{arith}
-use Rattle.firing.specs.Tables.{record_meets}
-use Rattle.scan.proofs.Phases.{Scanned, scan_start, scan_item, scan_next, scan_end}
+use Rattle.scan.proofs.Phases.{scan_start, scan_item, scan_next, scan_end}
 use Rattle.scan.proofs.Scan.meet_items.Goals as goal
 
 pub overflow_add-round : goal.overflow_add-round

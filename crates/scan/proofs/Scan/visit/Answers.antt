@@ -1,10 +1,9 @@
 -- `scan::Scan::visit` meets its contract.
 use native.Mathlib.Omega.{arith}
-use borrow.Author.Rules.{rules}
 use borrow.Author.Tests.{not-true, not-false}
 use mathlib.Core.Path.{refl}
 use lib.ListN.{length-set}
-use Rattle.scan.proofs.Visiting.{fact_low, fact_few, a_place, entries_place, visit_quiet, visit_dropped, visit_again, visit_new}
+use Rattle.scan.proofs.Visiting.{fact_few, a_place, entries_place, visit_quiet, visit_dropped, visit_again, visit_new}
 use Rattle.scan.proofs.Scan.visit.Goals as goal
 
 pub overflow_add-e : goal.overflow_add-e

@@ -2,8 +2,7 @@
 use Prim.Native.Nat.{◌-◌}
 use native.Mathlib.Omega.{arith}
 use borrow.Author.Tests.{not-true, not-false}
-use Rattle.scan.specs.Steps.{going}
-use Rattle.scan.proofs.Chaining.{VisitedTo, chain_start, chain_steady, chain_next, chain_skip, chain_less, chain_end}
+use Rattle.scan.proofs.Chaining.{chain_start, chain_steady, chain_next, chain_skip, chain_less, chain_end}
 use Rattle.scan.proofs.Scan.visit_chain.Goals as goal
 
 pub overflow_add-n : goal.overflow_add-n

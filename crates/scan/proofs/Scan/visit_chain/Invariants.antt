@@ -1,9 +1,6 @@
 -- `scan::Scan::visit_chain` meets its contract. The loop's invariant: the chain is visited down to an entry.
-use Prim.Native.Nat.{◌-◌}
-use native.Mathlib.Omega.{arith}
-use borrow.Author.Tests.{not-true, not-false}
 use Rattle.scan.specs.Steps.{going}
-use Rattle.scan.proofs.Chaining.{VisitedTo, chain_start, chain_steady, chain_next, chain_skip, chain_less, chain_end}
+use Rattle.scan.proofs.Chaining.{VisitedTo}
 use Rattle.scan.proofs.Scan.visit_chain.Given as goal
 
 abbrev pub invariant-loop-next : goal.invariant-loop-next

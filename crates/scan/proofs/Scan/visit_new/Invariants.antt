@@ -1,8 +1,7 @@
 -- `scan::Scan::visit_new` meets its contract. The loop's invariant: the names so far are swept.
 use Prim.Native.Nat.{◌-◌}
-use native.Mathlib.Omega.{arith}
 use Rattle.scan.specs.Steps.{going}
-use Rattle.scan.proofs.Chaining.{Swept, sweep_start, sweep_fired, sweep_visits, sweep_steady, sweep_skip, sweep_next, sweep_end}
+use Rattle.scan.proofs.Chaining.{Swept}
 use Rattle.scan.proofs.Scan.visit_new.Given as goal
 
 abbrev pub invariant-loop-n : goal.invariant-loop-n
