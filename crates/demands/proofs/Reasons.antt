@@ -20,7 +20,7 @@ use Rattle.model.specs.Reasons.{Item, scanned_items, supplier, met_listed, rows_
 use Rattle.model.specs.declared.AsumKind.{AsumKind}
 use Rattle.model.specs.declared.AsumKind.TheVariants.{Drop, Ambient, Triggers}
 use Rattle.model.specs.declared.Row.{Row}
-use Rattle.model.proofs.ListLaws.{T_and, all_elim, keep_intro, keep_elim, collect_intro, collect_elim, concat_elim, map_intro, map_elim, count_keep, count_map, getD_mem, get_d_map}
+use Rattle.model.proofs.ListLaws.{T_and, all_elim, keep_intro, keep_elim, collect_intro, collect_elim, concat_elim, map_intro, map_elim, count_keep, count_map, getD_mem, getD_map}
 use Rattle.model.proofs.SetLaws.{Ascending, ascending_tail, ascending_head, ascending_keep, ascending_from_list, ascending_ext, mem_keep, mem_intro, mem_elim, mem_from_list, order_irrefl}
 use Rattle.model.proofs.IndexLaws.{number_in}
 use Rattle.laws.proofs.ReadingLaws.{within, kept_by_file, file_within}
@@ -493,7 +493,7 @@ met_exact file s accepted a =
     let met : Name → Bool = λ n. mem n (run_of a s).met in
     record {
       one_bit_each = length-map s.names met;
-      bit = λ k n (h, e). get_d_map met s.names k [] false h ∙ ap met e;
+      bit = λ k n (h, e). getD_map met s.names k [] false h ∙ ap met e;
       number = count_map (λ b. b) met s.names ∙ count_keep met s.names;
       names_once = (accepted_laws file s accepted).numbered_once;
     }

@@ -6,7 +6,7 @@ ghost use Rattle.model.specs.Rounds.{admits};
 ghost use Rattle.options.specs.OptionsOf.{asks, options_value, OptionsOf};
 
 // The options of an ask: 1, `no_ambients`; 2, `pretyping_axioms`; 4, `prune_decls`; 8, the bodies of kept definitions followed.
-#[derive(Drop)]
+#[derive(Clone, Copy)]
 pub struct Options {
     pub no_ambients: bool,
     pub pretyping_axioms: bool,

@@ -1,7 +1,6 @@
 -- `test_cases::call` meets its contract.
 use Rattle.printing.proofs.Texts.{counted}
 use Rattle.printing.proofs.Answers.{call_told, told_more}
-use borrow.Author.Rules.{rules}
 use Rattle.test_cases.proofs.call.Goals as goal
 
 pub slice_bounds-filter-end-2 : goal.slice_bounds-filter-end-2

@@ -1,7 +1,6 @@
 -- `test_cases::one_case` meets its contract.
 use lib.ListN.{length-take, length-drop}
 use Rattle.cases.proofs.Laws.{case_in}
-use borrow.Author.Rules.{rules}
 use native.Mathlib.Omega.{arith}
 use Rattle.test_cases.proofs.one_case.Goals as goal
 

@@ -1,5 +1,4 @@
 -- `test_cases::print` is safe and ends.
-use borrow.Author.Rules.{rules}
 use native.Mathlib.Omega.{arith}
 use Rattle.test_cases.proofs.print.Goals as goal
 

@@ -1,7 +1,6 @@
 -- `test_cases::run` is safe and ends.
 use mathlib.Core.Path.{refl}
 use Rattle.printing.proofs.Answers.{told_room}
-use borrow.Author.Rules.{rules}
 use native.Mathlib.Omega.{arith}
 use Rattle.test_cases.proofs.run.Goals as goal
 

@@ -1,5 +1,4 @@
 -- `wimplejade::wimplejade_filter` meets its contract.
-use borrow.Author.Rules.{rules}
 use Rattle.wimplejade.proofs.wimplejade_filter.Goals as goal
 
 pub filter-requires : goal.filter-requires

@@ -1,5 +1,4 @@
 -- `wimplejade::wimplejade_sweep` meets its contract.
-use borrow.Author.Rules.{rules}
 use Rattle.wimplejade.proofs.wimplejade_sweep.Goals as goal
 
 pub sweep-requires : goal.sweep-requires
