@@ -2,7 +2,6 @@
 use lib.ListN.{length-take}
 use Rattle.printing.proofs.Texts.{counted}
 use Rattle.factfilter.proofs.Laws.{read_within}
-use borrow.Author.Rules.{rules}
 use native.Mathlib.Omega.{arith}
 use Rattle.factfilter.proofs.answer.Goals as goal
 

@@ -2,7 +2,6 @@
 use lib.ListN.{length-append}
 use Rattle.printing.proofs.Answers.{swept_room}
 use Rattle.printing.proofs.Texts.{counted}
-use borrow.Author.Rules.{rules}
 use native.Mathlib.Omega.{arith}
 use Rattle.test_calls.proofs.call_sweep.Goals as goal
 

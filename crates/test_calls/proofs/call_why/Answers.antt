@@ -1,6 +1,5 @@
 -- `test_calls::call_why` is safe and ends.
 use Rattle.printing.proofs.Texts.{counted}
-use borrow.Author.Rules.{rules}
 use Rattle.test_calls.proofs.call_why.Goals as goal
 
 pub slice_bounds-explain-end-2 : goal.slice_bounds-explain-end-2

@@ -1,9 +1,8 @@
 -- `test_calls::main` is safe and ends. The loop's invariant: the bytes that are held lie in the window.
-use Prim.Native.Nat.{ℕ, ◌≤◌}
-use mathlib.Core.Path.{◌≡◌, sym}
-use lib.ListN.{length, length-replicate, length-take}
+use Prim.Native.Nat.{ℕ}
+use mathlib.Core.Path.{sym}
+use lib.ListN.{length-replicate, length-take}
 use Rattle.printing.proofs.Texts.{counted}
-use borrow.Author.Rules.{rules}
 use native.Mathlib.Omega.{arith}
 use Rattle.test_calls.proofs.main.Goals as goal
 

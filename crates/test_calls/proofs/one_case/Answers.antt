@@ -1,7 +1,6 @@
 -- `test_calls::one_case` meets its contract.
 use lib.ListN.{length-take, length-drop}
 use Rattle.cases.proofs.Laws.{case_in}
-use borrow.Author.Rules.{rules}
 use native.Mathlib.Omega.{arith}
 use Rattle.test_calls.proofs.one_case.Goals as goal
 

@@ -1,5 +1,4 @@
 -- `test_calls::print_sweep` is safe and ends.
-use borrow.Author.Rules.{rules}
 use native.Mathlib.Omega.{arith}
 use Rattle.test_calls.proofs.print_sweep.Goals as goal
 

@@ -1,6 +1,5 @@
 -- `test_calls::run` is safe and ends.
 use Rattle.text.proofs.Laws.{mark_from, mark_to}
-use borrow.Author.Rules.{rules}
 use native.Mathlib.Omega.{arith}
 use Rattle.test_calls.proofs.run.Goals as goal
 

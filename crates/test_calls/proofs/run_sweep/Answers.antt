@@ -1,6 +1,5 @@
 -- `test_calls::run_sweep` is safe and ends.
 use mathlib.Core.Path.{refl}
-use borrow.Author.Rules.{rules}
 use native.Mathlib.Omega.{arith}
 use Rattle.test_calls.proofs.run_sweep.Goals as goal
 

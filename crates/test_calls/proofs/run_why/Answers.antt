@@ -1,7 +1,5 @@
 -- `test_calls::run_why` is safe and ends.
 use mathlib.Core.Path.{refl}
-use borrow.Author.Rules.{rules}
-use native.Mathlib.Omega.{arith}
 use Rattle.test_calls.proofs.run_why.Goals as goal
 
 pub slice_bounds-soil-end : goal.slice_bounds-soil-end

@@ -1,6 +1,5 @@
 -- `factfilter::errors::say_refusal` is safe and ends.
 use Rattle.printing.proofs.Texts.{counted}
-use borrow.Author.Rules.{rules}
 use Rattle.factfilter.proofs.errors.say_refusal.Goals as goal
 
 pub slice_bounds-write_all-end : goal.slice_bounds-write_all-end

@@ -1,5 +1,4 @@
 -- `factfilter::list::print` is safe and ends.
-use borrow.Author.Rules.{rules}
 use native.Mathlib.Omega.{arith}
 use Rattle.factfilter.proofs.list.print.Goals as goal
 

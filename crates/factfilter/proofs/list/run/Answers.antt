@@ -1,6 +1,5 @@
 -- `factfilter::list::run` is safe and ends.
 use Rattle.printing.proofs.Answers.{call_told}
-use borrow.Author.Rules.{rules}
 use Rattle.factfilter.proofs.list.run.Goals as goal
 
 pub print-requires : goal.print-requires

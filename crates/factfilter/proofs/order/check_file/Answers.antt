@@ -1,7 +1,6 @@
 -- `factfilter::order::check_file` meets its contract.
 use mathlib.Core.Path.{refl}
 use Rattle.factfilter.proofs.Laws.{orders}
-use borrow.Author.Rules.{rules}
 use Rattle.factfilter.proofs.order.check_file.Goals as goal
 
 pub returns : goal.returns

@@ -1,6 +1,5 @@
 -- `factfilter::summaries::run` is safe and ends.
 use Rattle.front.proofs.Laws.{opened_file}
-use borrow.Author.Rules.{rules}
 use Rattle.factfilter.proofs.summaries.run.Goals as goal
 
 pub print-requires : goal.print-requires

@@ -1,5 +1,4 @@
 -- `factfilter::swept::print` is safe and ends.
-use borrow.Author.Rules.{rules}
 use native.Mathlib.Omega.{arith}
 use Rattle.factfilter.proofs.swept.print.Goals as goal
 

@@ -1,5 +1,4 @@
 -- `factfilter::swept::run` is safe and ends.
-use borrow.Author.Rules.{rules}
 use Rattle.factfilter.proofs.swept.run.Goals as goal
 
 pub print-requires : goal.print-requires

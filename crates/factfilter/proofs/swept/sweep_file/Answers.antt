@@ -1,7 +1,6 @@
 -- `factfilter::swept::sweep_file` meets its contract: what `sweep` promises of a call over six slices of the words that it uses.
 use mathlib.Core.Path.{refl}
 use Rattle.factfilter.proofs.Laws.{sweeps}
-use borrow.Author.Rules.{rules}
 use Rattle.factfilter.proofs.swept.sweep_file.Goals as goal
 
 pub returns : goal.returns

@@ -1,7 +1,6 @@
 -- `factfilter::why::explain_file` meets its contract.
 use mathlib.Core.Path.{refl}
 use Rattle.factfilter.proofs.Laws.{explains}
-use borrow.Author.Rules.{rules}
 use Rattle.factfilter.proofs.why.explain_file.Goals as goal
 
 pub returns : goal.returns
