@@ -46,8 +46,8 @@ extern "C" {
 /* The bytes that a file may have. */
 #define WIMPLEJADE_MOST_BYTES 65535
 
-/* The stack, in bytes, that is enough for every call: 2 MB. A call takes 256 bytes for each level of the deepest term, of which
- * there can be 4,096: `make stack` measures each function, 1,050,576 bytes at most, by wimplejade_filter. */
+/* The stack, in bytes, that is enough for every call: 2 MB. A call takes 112 bytes for each level of the deepest term, of which
+ * there can be 4,096: `make stack` measures each function, 460,600 bytes at most, by wimplejade_filter. */
 #define WIMPLEJADE_STACK_BYTES (2u << 20)
 
 /* Why a call is refused; the comment says what `place` is then. A line is counted from 1. A line that passes several
