@@ -30,7 +30,6 @@ fn main() {
         Some(path) => named(PathBuf::from(path)),
         None => proved(),
     };
-    println!("cargo:rerun-if-changed={}", archive.display());
 
     let folder = PathBuf::from(env::var_os("OUT_DIR").expect("cargo sets OUT_DIR"));
     if let Err(error) = fs::copy(&archive, folder.join("libwimplejade.a")) {
@@ -45,6 +44,7 @@ fn named(path: PathBuf) -> PathBuf {
     if !path.is_absolute() {
         fail(&format!("WIMPLEJADE_LIB is {}, which is not a whole path", path.display()));
     }
+    println!("cargo:rerun-if-changed={}", path.display());
     path
 }
 
@@ -54,9 +54,10 @@ fn proved() -> PathBuf {
     let Some(top) = package.ancestors().nth(2).filter(|top| is_repository(top)) else {
         fail(&format!("{} stands in no repository of wimplejade; {HOW}", package.display()));
     };
-    for source in ["crates", "crates.txt"] {
-        println!("cargo:rerun-if-changed={}", top.join(source).display());
+    for source in sources(&top.join("crates")) {
+        println!("cargo:rerun-if-changed={}", source.display());
     }
+    println!("cargo:rerun-if-changed={}", top.join("crates.txt").display());
     let run = Command::new(top.join("bin/archive")).output();
     match run {
         Ok(output) if output.status.success() => top.join(ARCHIVE),
@@ -68,9 +69,17 @@ fn proved() -> PathBuf {
     }
 }
 
-/// Whether a folder is the top of the repository: the library's crate is listed and there.
+/// The folders from which `rt` proves the crates. What it makes stands beside them, and is not looked at.
+fn sources(crates: &Path) -> Vec<PathBuf> {
+    let folders = fs::read_dir(crates).unwrap_or_else(|error| fail(&format!("{}: {error}", crates.display())));
+    let crates = folders.flatten().map(|folder| folder.path());
+    let sources = crates.flat_map(|folder| ["src", "specs", "proofs"].map(|source| folder.join(source)));
+    sources.filter(|source| source.is_dir()).collect()
+}
+
+/// Whether a folder is the top of the repository: the crate of the archive is listed and there.
 fn is_repository(top: &Path) -> bool {
-    top.join("crates.txt").is_file() && top.join("crates/wimplejade").is_dir()
+    top.join("crates.txt").is_file() && top.join("crates/wimplejade_c").is_dir()
 }
 
 fn fail(why: &str) -> ! {
