@@ -114,8 +114,8 @@ struct wimplejade_answer {
  *
  * Accepted, `result` holds line numbers from its start, as many as the sum of `kept`, and past them what it held before.
  *
- * A file that looks like an export, with one ask line, takes 10 to 350 microseconds, the worst file known 0.2 to 0.5 seconds;
- * no bound is proved (docs/PERFORMANCE.md).
+ * A file that looks like an export, with one ask line, takes 10 to 350 microseconds, the worst file known 0.2 to 0.5 seconds, as
+ * measured with the older toolchain; no bound is proved (docs/PERFORMANCE.md).
  */
 struct wimplejade_answer wimplejade_filter(const uint8_t *file, size_t file_bytes,
                                            uint32_t *working0, size_t working0_words,

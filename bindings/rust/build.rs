@@ -1,7 +1,7 @@
 //! Links the archive of the proved library.
 //!
 //! `WIMPLEJADE_LIB` names an archive to take, by its whole path. Without it the script runs `bin/archive` of
-//! the repository, which proves the library first: some minutes from nothing, half a minute once it is proved. Where
+//! the repository, which proves the library first: some fifteen minutes from nothing, half a minute once it is proved. Where
 //! documentation alone is built, nothing is linked.
 
 use std::env;

@@ -118,7 +118,7 @@
 //! otherwise. A thread with less may end the process, as every overflow of the stack does.
 //!
 //! A file that looks like an export, with one ask line, takes 10 to 350 microseconds, the worst file known 0.2 to 0.5
-//! seconds.
+//! seconds, as measured with the older toolchain.
 
 #![deny(missing_docs)]
 
