@@ -19,9 +19,3 @@ slice_bounds-check_order-end-10 c = counted _ _ c.requires.lent_4
 
 pub slice_bounds-check_order-end-12 : goal.slice_bounds-check_order-end-12
 slice_bounds-check_order-end-12 c = counted _ _ c.requires.lent_5
-
-pub check_order-requires : goal.check_order-requires
-check_order-requires c = tt
-
-pub returns : goal.returns
-returns c = tt

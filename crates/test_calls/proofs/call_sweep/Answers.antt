@@ -26,9 +26,6 @@ slice_bounds-sweep-end-12 c = counted _ _ c.requires.0.lent_5
 pub slice_bounds-sweep-end-14 : goal.slice_bounds-sweep-end-14
 slice_bounds-sweep-end-14 c = counted _ _ c.requires.1
 
-pub sweep-requires : goal.sweep-requires
-sweep-requires c = tt
-
 pub returns : goal.returns
 returns c =
     let exact = c.sweep.ensures.exact in

@@ -19,9 +19,3 @@ slice_bounds-explain-end-10 c = counted _ _ c.requires.lent_4
 
 pub slice_bounds-explain-end-12 : goal.slice_bounds-explain-end-12
 slice_bounds-explain-end-12 c = counted _ _ c.requires.lent_5
-
-pub explain-requires : goal.explain-requires
-explain-requires c = tt
-
-pub returns : goal.returns
-returns c = tt

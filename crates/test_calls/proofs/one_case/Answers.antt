@@ -4,9 +4,6 @@ use Rattle.cases.proofs.Laws.{case_in}
 use native.Mathlib.Omega.{arith}
 use Rattle.test_calls.proofs.one_case.Goals as goal
 
-pub begin_case-requires : goal.begin_case-requires
-begin_case-requires c = tt
-
 pub slice_bounds-run-end : goal.slice_bounds-run-end
 slice_bounds-run-end c =
     let found = case_in _ _ _ c.in-At.is c.begin_case.ensures in

@@ -4,6 +4,3 @@ use Rattle.test_calls.proofs.print_sweep.Goals as goal
 
 pub print_sweep-requires : goal.print_sweep-requires
 print_sweep-requires c = (omega arith, omega arith, omega arith, c.requires.1)
-
-pub returns : goal.returns
-returns c = tt

@@ -9,29 +9,14 @@ same_text-requires c = (mark_from _ _ _ _ _ c.find-word.ensures, mark_to _ _ _ _
 pub run_why-requires : goal.run_why-requires
 run_why-requires c = c.requires.1
 
-pub returns-then-same_text : goal.returns-then-same_text
-returns-then-same_text c = tt
-
 pub same_text-requires-2 : goal.same_text-requires-2
 same_text-requires-2 c = (mark_from _ _ _ _ _ c.find-word.ensures, mark_to _ _ _ _ _ c.find-word.ensures (omega arith) (omega arith))
 
 pub run_sweep-requires : goal.run_sweep-requires
 run_sweep-requires c = c.requires
 
-pub returns-then-same_text-2 : goal.returns-then-same_text-2
-returns-then-same_text-2 c = tt
-
 pub same_text-requires-3 : goal.same_text-requires-3
 same_text-requires-3 c = (mark_from _ _ _ _ _ c.find-word.ensures, mark_to _ _ _ _ _ c.find-word.ensures (omega arith) (omega arith))
 
 pub run_order-requires : goal.run_order-requires
 run_order-requires c = c.requires.1
-
-pub returns-then-same_text-3 : goal.returns-then-same_text-3
-returns-then-same_text-3 c = tt
-
-pub put-requires : goal.put-requires
-put-requires c = tt
-
-pub returns : goal.returns
-returns c = tt

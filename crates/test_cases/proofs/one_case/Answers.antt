@@ -4,9 +4,6 @@ use Rattle.cases.proofs.Laws.{case_in}
 use native.Mathlib.Omega.{arith}
 use Rattle.test_cases.proofs.one_case.Goals as goal
 
-pub begin_case-requires : goal.begin_case-requires
-begin_case-requires c = tt
-
 pub slice_bounds-run-count : goal.slice_bounds-run-count
 slice_bounds-run-count c = (case_in _ _ _ c.in-At.is c.begin_case.ensures).ordered
 

@@ -4,6 +4,3 @@ use Rattle.test_cases.proofs.print.Goals as goal
 
 pub print-requires : goal.print-requires
 print-requires c = (omega arith, omega arith, omega arith, c.requires.1)
-
-pub returns : goal.returns
-returns c = tt

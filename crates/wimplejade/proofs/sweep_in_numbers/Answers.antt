@@ -2,8 +2,5 @@
 use Rattle.wimplejade.proofs.Laws.{sweep_numbers_are}
 use Rattle.wimplejade.proofs.sweep_in_numbers.Goals as goal
 
-pub verdict_number-requires : goal.verdict_number-requires
-verdict_number-requires c = tt
-
 pub returns : goal.returns
 returns c = sweep_numbers_are _ c.verdict_number.ensures
