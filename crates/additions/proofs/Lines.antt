@@ -12,9 +12,8 @@ use Rattle.model.specs.Names.{Name}
 use Rattle.model.specs.Terms.{Node, free_v, leaf, call, app, forall, exists, let_in, labeled, add_term}
 use Rattle.model.proofs.ListLaws.{T_or}
 use Rattle.model.proofs.PartLaws.{part_cons, part_drop}
-use Rattle.additions.specs.declared.Added.{Added}
 use Rattle.terms.specs.Rows.{row_start, row_end, terms_of_words, groups_of_words, op_of_code, make_node, terms_of, has_head, has_body, has_groups, bare_of, Rows}
-use Rattle.additions.specs.Additions.{row_word, with_row, added, rows_after, references_pushed, Pushed, Patterns, AddsTerm}
+use Rattle.additions.specs.Additions.{Addition, row_word, with_row, added, rows_after, references_pushed, Pushed, Patterns, AddsTerm}
 use Rattle.terms.proofs.Laws.{equal}
 use Rattle.additions.proofs.Laws.{pushed_in, added_in}
 use Rattle.terms.proofs.Table.{bare_low}
@@ -69,11 +68,11 @@ pushed_one {refs} {rows} {start} {used} {many} t g p h l = record {
 -- ---- the row of each kind
 
 -- what `add_row` comes to
-abbrev pub RowWritten : List ℕ → List ℕ → ℕ → ℕ → ℕ → ℕ → Added → Type 0
+abbrev pub RowWritten : List ℕ → List ℕ → ℕ → ℕ → ℕ → ℕ → Addition → Type 0
 RowWritten rows rows' many word start extra r = (r ≡ added many) × (rows' ≡ rows_after rows many word start extra)
 
 -- a row that is right for its kind adds its node
-adds_row : {refs rows rows' : List ℕ} {start used many named kind op head extra : ℕ} {node : (ℕ → Name) → Node} {r : Added}
+adds_row : {refs rows rows' : List ℕ} {start used many named kind op head extra : ℕ} {node : (ℕ → Name) → Node} {r : Addition}
     → (many < 4096 → NewRow refs rows start used many named kind op head extra)
     → ((name : ℕ → Name) → make_node kind (op_of_code op) (name head) (part refs start used) extra ≡ node name)
     → RowWritten rows rows' many (row_word kind op head) start extra r → AddsTerm refs rows rows' start used many named (row_word kind op head) extra node r
@@ -134,18 +133,18 @@ first : {refs rows : List ℕ} {start used many named : ℕ} → Pushed refs row
 first {refs} {start = start} {used} p h = ap (λ l. get_or l 0 0) (part_cons refs start used h (omega (arith, p.table.ref_room, p.few_references)))
 
 -- a `free`
-pub adds_free : {refs rows rows' : List ℕ} {used many named : ℕ} {r : Added} (head : ℕ) → Rows refs rows used many named → head < named
+pub adds_free : {refs rows rows' : List ℕ} {used many named : ℕ} {r : Addition} (head : ℕ) → Rows refs rows used many named → head < named
     → RowWritten rows rows' many (row_word 0 4 head) used 0 r → AddsTerm refs rows rows' used used many named (row_word 0 4 head) 0 (λ name. free_v (name head)) r
 unfolding make_node
 adds_free head t h = adds_row (no_body (pushed_none t) (omega arith) (omega arith) (λ k. h) (λ k. refl)) (λ name. refl)
 
 -- a `leaf`
-pub adds_leaf : {refs rows rows' : List ℕ} {used many named : ℕ} {r : Added} → Rows refs rows used many named
+pub adds_leaf : {refs rows rows' : List ℕ} {used many named : ℕ} {r : Addition} → Rows refs rows used many named
     → RowWritten rows rows' many (row_word 1 4 0) used 0 r → AddsTerm refs rows rows' used used many named (row_word 1 4 0) 0 (λ name. leaf) r
 unfolding make_node has_head
 adds_leaf t = adds_row (no_body (pushed_none t) (omega arith) (omega arith) (λ k. absurd k) (λ k. refl)) (λ name. refl)
 
-module _ {refs rows rows' : List ℕ} {start used many named : ℕ} {r : Added} (p : Pushed refs rows start used many named) where
+module _ {refs rows rows' : List ℕ} {start used many named : ℕ} {r : Addition} (p : Pushed refs rows start used many named) where
   -- a `call`
   pub adds_call : (head : ℕ) → head < named → RowWritten rows rows' many (row_word 2 4 head) start 0 r
       → AddsTerm refs rows rows' start used many named (row_word 2 4 head) 0 (λ name. call (name head) (terms_of_words (part refs start used))) r
@@ -184,7 +183,7 @@ module _ {refs rows : List ℕ} {start many named t under : ℕ} (p : Pushed ref
       omega (arith, bare_low p.table t l)
 
   -- a `label`
-  pub adds_label : {rows' : List ℕ} {r : Added} → RowWritten rows rows' many (row_word 7 4 0) start under r
+  pub adds_label : {rows' : List ℕ} {r : Addition} → RowWritten rows rows' many (row_word 7 4 0) start under r
       → AddsTerm refs rows rows' start (start + 1) many named (row_word 7 4 0) (bare_of rows (get_or refs start 0 % 4096)) (λ name. labeled (get_or refs start 0 % 4096)) r
   unfolding make_node has_groups
   adds_label w =

@@ -8,27 +8,25 @@ ghost use Rattle.model.specs.Outcome.{working_words};
 ghost use Rattle.terms.specs.Rows.{term_of, free_kind, leaf_kind, call_kind, op_kind, all_kind, some_kind, let_kind, label_kind, terms_of_words, groups_of_words, op_of_code, bare_of, Rows};
 ghost use Rattle.additions.specs.Additions.{no_word, row_word, added, rows_after, references_pushed, push_answer, Pushed, Patterns, AddsTerm};
 
-// What adding a row or a reference comes to.
-#[derive(Clone, Copy)]
-pub enum Added {
-    Done,
-    Full,
-}
+use model::Refusal;
+
+// The slices and counts stay loose parameters: a struct of lent slices costs a clause for each slice that a function leaves as
+// it was.
 
 // The op word of a row that is no `op`.
 const NO_WORD: usize = 4;
 
 // Pushes a reference to a term, in a group of its quantifier; the references so far are `used`. Full references stay.
-pub fn push(refs: &mut [u32], used: usize, term: usize, group: usize) -> Added
+pub fn push(refs: &mut [u32], used: usize, term: usize, group: usize) -> Result<(), Refusal>
     requires { (working_words ≤ length refs.old) × (term < most_terms) × (group < 65536) }
     ensures answer { result ≡ push_answer used }
     ensures refs { refs.new ≡ references_pushed refs.old used (term + 4096 * group) }
 {
     if model::MOST_REFERENCES <= used {
-        return Added::Full;
+        return Err(Refusal::FullTerms);
     }
     refs[used] = (term + terms::GROUP * group) as u32;
-    Added::Done
+    Ok(())
 }
 
 // Adds a row: kind, op word and head name, where its references start, and its groups or the term under a run of labels.
@@ -40,19 +38,19 @@ fn add_row(
     head: usize,
     start: usize,
     extra: usize,
-) -> Added
+) -> Result<(), Refusal>
     requires { (working_words ≤ length rows.old) × (kind < 8) × (op < 8) × (head < most_names) × (start ≤ most_references)
         × (extra < 65536) }
     ensures answer { result ≡ added many }
     ensures rows { rows.new ≡ rows_after rows.old many (row_word kind op head) start extra }
 {
     if model::MOST_TERMS <= many {
-        return Added::Full;
+        return Err(Refusal::FullTerms);
     }
     rows[many] = (kind + 8 * (op + 8 * head)) as u32;
     rows[terms::START + many] = start as u32;
     rows[terms::EXTRA + many] = extra as u32;
-    Added::Done
+    Ok(())
 }
 
 // Adds a `free`: its name has a number.
@@ -63,7 +61,7 @@ pub fn add_free(
     many: usize,
     named: usize,
     head: usize,
-) -> Added
+) -> Result<(), Refusal>
     requires { Rows refs.now rows.old used many named × (head < named) }
     ensures { AddsTerm refs.now rows.old rows.new used used many named
         (row_word free_kind no_word head) 0 (λ name. free_v (name head)) result }
@@ -72,7 +70,13 @@ pub fn add_free(
 }
 
 // Adds a `leaf`.
-pub fn add_leaf(refs: &[u32], rows: &mut [u32], used: usize, many: usize, named: usize) -> Added
+pub fn add_leaf(
+    refs: &[u32],
+    rows: &mut [u32],
+    used: usize,
+    many: usize,
+    named: usize,
+) -> Result<(), Refusal>
     requires { Rows refs.now rows.old used many named }
     ensures { AddsTerm refs.now rows.old rows.new used used many named
         (row_word leaf_kind no_word 0) 0 (λ name. leaf) result }
@@ -89,7 +93,7 @@ pub fn add_call(
     many: usize,
     named: usize,
     head: usize,
-) -> Added
+) -> Result<(), Refusal>
     requires { Pushed refs.now rows.old start used many named × (head < named) }
     ensures { AddsTerm refs.now rows.old rows.new start used many named
         (row_word call_kind no_word head) 0 (λ name. call (name head) (terms_of_words (part refs.now start used)))
@@ -107,7 +111,7 @@ pub fn add_op(
     many: usize,
     named: usize,
     op: usize,
-) -> Added
+) -> Result<(), Refusal>
     requires { Pushed refs.now rows.old start used many named × (op < 5) }
     ensures { AddsTerm refs.now rows.old rows.new start used many named
         (row_word op_kind op 0) 0 (λ name. app (op_of_code op) (terms_of_words (part refs.now start used))) result }
@@ -124,7 +128,7 @@ pub fn add_all(
     many: usize,
     named: usize,
     groups: usize,
-) -> Added
+) -> Result<(), Refusal>
     requires { Pushed refs.now rows.old start used many named × Patterns refs.now start used groups
         × (groups < 65536) }
     ensures { AddsTerm refs.now rows.old rows.new start used many named
@@ -134,7 +138,8 @@ pub fn add_all(
     add_row(rows, many, terms::ALL, NO_WORD, 0, start, groups)
 }
 
-// Adds a `some` with so many groups.
+// Adds a `some` with so many groups. One function for this and `add_all` is no plainer: a `bool` would choose the kind and the
+// node.
 pub fn add_some(
     refs: &[u32],
     rows: &mut [u32],
@@ -143,7 +148,7 @@ pub fn add_some(
     many: usize,
     named: usize,
     groups: usize,
-) -> Added
+) -> Result<(), Refusal>
     requires { Pushed refs.now rows.old start used many named × Patterns refs.now start used groups
         × (groups < 65536) }
     ensures { AddsTerm refs.now rows.old rows.new start used many named
@@ -161,7 +166,7 @@ pub fn add_let(
     used: usize,
     many: usize,
     named: usize,
-) -> Added
+) -> Result<(), Refusal>
     requires { Pushed refs.now rows.old start used many named × (start < used) }
     ensures { AddsTerm refs.now rows.old rows.new start used many named
         (row_word let_kind no_word 0) 0 (λ name. let_in (term_of (get_or refs.now start 0))
@@ -171,7 +176,13 @@ pub fn add_let(
 }
 
 // Adds a `label` of a term; the row has the term under the run of labels.
-pub fn add_label(refs: &[u32], rows: &mut [u32], start: usize, many: usize, named: usize) -> Added
+pub fn add_label(
+    refs: &[u32],
+    rows: &mut [u32],
+    start: usize,
+    many: usize,
+    named: usize,
+) -> Result<(), Refusal>
     requires { Pushed refs.now rows.old start (start + 1) many named }
     ensures { AddsTerm refs.now rows.old rows.new start (start + 1) many named
         (row_word label_kind no_word 0) (bare_of rows.old (term_of (get_or refs.now start 0)))

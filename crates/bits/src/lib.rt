@@ -25,11 +25,9 @@ fn count_ones(words: &[u32], base: usize, size: usize) -> usize
     ensures { result ≡ ones_of (take (32 * size) (bits_from base words.now)) }
 {
     let mut total: usize = 0;
-    let mut i: usize = 0;
-    while i < size {
-        let ones = u32::count_ones(words[base + i]) as usize;
+    for i in 0..size {
+        let ones = words[base + i].count_ones() as usize;
         total += ones;
-        i += 1;
     }
     total
 }
@@ -39,14 +37,11 @@ fn mark_bits(w: &mut [u32], column: usize, size: usize, base: usize)
     requires { Unmarked column size base w.old }
     ensures { Marked column size base w.old w.new }
 {
-    let mut n: usize = 0;
-    while n < size {
+    for n in 0..size {
         if at(w, column + n) == 0 {
-            n += 1;
             continue;
         }
         set_bit(w, base, n);
-        n += 1;
     }
 }
 

@@ -1,1 +1,1 @@
-pub mod Heads
+-- No definitions: the contracts cite those of std.

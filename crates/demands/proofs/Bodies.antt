@@ -14,7 +14,7 @@ use Rattle.model.specs.Reading.{Ask, prune_decls, follow_bodies, Root, Decl, Sum
 use Rattle.model.specs.Rounds.{facts, definitions, declarations, Run, run}
 use Rattle.model.specs.Kept.{ambients, kept_facts, kept_names, first_met, kept_decls, kept}
 use Rattle.model.specs.Bodies.{all_followed, added_names, of_names, added_for, kept_followed}
-use Rattle.model.specs.declared.Order.TheVariants.{Before}
+use Rattle.std.specs.declared.cmp.Ordering.TheVariants.{Less as Before}
 use Rattle.model.proofs.ListLaws.{T_and, T_dec, any_intro, any_elim, cond_true, cond_false, cond_case, option_elim, keep_intro, keep_elim, keep_all, keep_none, keep_append, collect_intro, collect_elim, collect_append, map_intro, map_elim, reverse_elim}
 use Rattle.model.proofs.SetLaws.{Ascending, empty, keep_no_name, ascending_head, ascending_tail, ascending_keep, order_trans, order_irrefl, same_eq, same_refl, mem_intro, mem_elim, mem_from_list}
 use Rattle.laws.proofs.BackgroundLaws.{background_groups}

@@ -7,7 +7,8 @@ use native.Mathlib.Omega.{arith}
 use mathlib.Core.Path.{◌≡◌, refl, sym, ◌∙◌, ap}
 use mathlib.Core.Bool.{Bool, true, false, cond, not}
 use mathlib.Core.List.{List, [], ◌∷◌, append-nil}
-use mathlib.Core.Option.{some, none-ne-some, some-injective}
+use Rattle.std.specs.Prelude.{Some as some}
+use Rattle.std.proofs.lemmas.Option.{none-some as none-ne-some, same_Some as some-injective}
 use lib.Dec.{T, T_not, not_T, leb, leb→le, nleb→lt, eqb}
 use lib.ListN.{length, get_or, length-append}
 use Rattle.model.specs.Lists.{any, concat, collect, holds}

@@ -6,7 +6,8 @@ use mathlib.Core.Bool.{Bool, true, false, cond, not, not-not}
 use mathlib.Core.List.{List, [], ◌∷◌}
 use mathlib.Core.Logic.Iff
 use mathlib.Core.Logic.{◌↔◌, ◌≢◌, ◌⊎◌, inl, inr}
-use mathlib.Core.Option.{Option, none, some, some-injective, none-ne-some}
+use Rattle.std.specs.Prelude.{Option, None as none, Some as some}
+use Rattle.std.proofs.lemmas.Option.{same_Some as some-injective, none-some as none-ne-some}
 use lib.Dec.{T, T_not, not_T, leb, leb→le, le→leb, nleb→lt, eqb, eqb→eq, eqb_refl}
 use lib.ListN.{length}
 use Rattle.model.specs.Lists.{holds}

@@ -4,7 +4,8 @@ use mathlib.Core.Path.{◌≡◌, refl, sym, ◌∙◌, ap}
 use mathlib.Core.Logic.{◌≢◌, ⊎_elim}
 use mathlib.Core.List.Memᴰ
 use mathlib.Core.List.{List, [], ◌∷◌, ◌++◌, map, Memᴰ}
-use mathlib.Core.Option.{none, some, none-ne-some}
+use Rattle.std.specs.Prelude.{None as none, Some as some}
+use Rattle.std.proofs.lemmas.Option.{none-some as none-ne-some}
 use lib.Dec.{T, T_not}
 use Rattle.model.specs.Lists.{is_nil, when, ◌>>=◌}
 use Rattle.model.specs.Names.{Name, bytes, by_byte, order, is_same, same, mem, union, starts_with}

@@ -7,7 +7,7 @@ use mathlib.Core.Logic.{◌⊎◌, inl, inr, ⊎_elim}
 use mathlib.Core.Bool.{Bool, true, false, not}
 use mathlib.Core.List.Memᴰ
 use mathlib.Core.List.{List, [], ◌∷◌, ◌++◌, map, Memᴰ}
-use mathlib.Core.Option.{Option, none, some}
+use Rattle.std.specs.Prelude.{Option, None as none, Some as some}
 use lib.Dec.{T, leb, leb→le, nleb→lt, T_not}
 use lib.ListN.{length, length-append}
 use Rattle.model.specs.Lists.{any, all, keep, collect, is_nil, to_list, when, sum, ◌>>=◌}

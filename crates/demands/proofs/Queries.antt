@@ -5,7 +5,8 @@ use mathlib.Core.Path.{◌≡◌, refl, sym, ◌∙◌, ap}
 use mathlib.Core.Bool.{Bool, true, false, cond, ◌||◌, or-false}
 use mathlib.Core.Logic.{◌↔◌}
 use mathlib.Core.List.{List, [], ◌∷◌, ◌++◌, map, map-append, append-nil, Memᴰ}
-use mathlib.Core.Option.{some, some-injective}
+use Rattle.std.specs.Prelude.{Some as some}
+use Rattle.std.proofs.lemmas.Option.{same_Some as some-injective}
 use lib.Dec.{T, not_T, eqb, eqb→eq, eqb_refl}
 use lib.ListN.{length, drop}
 use Rattle.model.specs.Lists.{any, keep, collect, fold_left}

@@ -4,7 +4,7 @@ use mathlib.Core.Path.{◌≡◌, refl, ◌∙◌, ap}
 use mathlib.Core.Logic.{inl, inr, ⊎_elim}
 use mathlib.Core.Bool.{not, ◌&&◌}
 use mathlib.Core.List.{List, [], ◌++◌, Memᴰ}
-use mathlib.Core.Option.{get_or}
+use Rattle.std.specs.Prelude.{unwrap_or as get_or}
 use Rattle.model.specs.Lists.{is_nil}
 use Rattle.model.specs.Names.{Name, mem, from_list, union}
 use Rattle.model.specs.Summaries.{Fact}

@@ -6,7 +6,8 @@ use mathlib.Core.Logic.{◌⊎◌, inl, inr, ⊎_elim}
 use mathlib.Core.Bool.{not, ◌||◌}
 use mathlib.Core.List.Memᴰ
 use mathlib.Core.List.{List, [], ◌∷◌, ◌++◌, map, append-nil, Memᴰ}
-use mathlib.Core.Option.{some, none-ne-some, some-injective}
+use Rattle.std.specs.Prelude.{Some as some}
+use Rattle.std.proofs.lemmas.Option.{none-some as none-ne-some, same_Some as some-injective}
 use lib.Dec.{T, T_not}
 use lib.ListN.{length}
 use Rattle.model.specs.Lists.{fold_left, sum, when, or_else, is_nil, ◌>>=◌}

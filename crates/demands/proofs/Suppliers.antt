@@ -6,7 +6,7 @@ use mathlib.Core.Logic.{◌↔◌, ◌⊎◌, inl, inr, ⊎_elim}
 use mathlib.Core.Bool.{Bool, true, false, cond, not, ◌&&◌, ◌||◌}
 use mathlib.Core.List.Memᴰ
 use mathlib.Core.List.{List, [], ◌∷◌, map, Memᴰ}
-use mathlib.Core.Option.{Option, none, some}
+use Rattle.std.specs.Prelude.{Option, None as none, Some as some}
 use lib.Dec.{T, T_not, ltb, eqb, ltb→lt, lt→ltb, eqb→eq, eqb_refl, not_T}
 use Rattle.model.specs.Lists.{any, keep, collect, fold_left}
 use Rattle.model.specs.Names.{Name, mem}

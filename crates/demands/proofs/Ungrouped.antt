@@ -5,7 +5,8 @@ use mathlib.Core.Path.{◌≡◌, refl, sym, ◌∙◌, ap, subst}
 use mathlib.Core.Logic.{⊎_elim, ◌≢◌}
 use mathlib.Core.Bool.{Bool, true, false, true≢false, not, ◌&&◌, ◌||◌, beq, or-true}
 use mathlib.Core.List.{List, [], ◌∷◌, ◌++◌, map, map-map, map-id, map-append, append-nil, cons-ne-nil, Memᴰ}
-use mathlib.Core.Option.{some, some-injective}
+use Rattle.std.specs.Prelude.{Some as some}
+use Rattle.std.proofs.lemmas.Option.{same_Some as some-injective}
 use lib.Dec.{T, T_not, not_T, leb, nleb→lt, eqb}
 use lib.ListN.{length, get_or}
 use Rattle.model.specs.Lists.{any, all, sum, collect, holds, is_nil, last}

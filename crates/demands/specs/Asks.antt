@@ -2,10 +2,9 @@
 -- also lines directly after ask or also lines, counted with them; Change 6: hide lines directly after all these; Change 13: "All
 -- ask lines of a file are of the first one's form". A line that may not stand is refused with 1 as one of an unknown kind
 -- (LineForm).
-use Rattle.std.specs.Prelude.{ℕ, suc, ◌≤◌, ◌≡◌, ◌↔◌, Bool, cond, not, T, length, get_or}
+use Rattle.std.specs.Prelude.{ℕ, suc, ◌≤◌, ◌≡◌, ◌↔◌, Bool, cond, not, T, length, get_or, Some as some}
 use Prim.Native.String.{String}
 use mathlib.Core.List.{List, [], ◌∷◌, ◌++◌, Memᴰ}
-use Rattle.std.proofs.Math.Option.{some}
 use Rattle.model.specs.Lists.{any}
 use Rattle.model.specs.Names.{bytes}
 use Rattle.model.specs.Lines.{Line, lines, Field, fields}

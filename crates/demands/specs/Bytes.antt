@@ -1,7 +1,6 @@
 -- Document 01, "The file", of the bytes: what a line, a field, a number and a name is, each both ways.
-use Rattle.std.specs.Prelude.{ℕ, ◌+◌, ◌-◌, ◌*◌, ◌^◌, ◌≤◌, ◌<◌, ◌≡◌, ◌↔◌, ◌≢◌, true, false, cond, T, length}
+use Rattle.std.specs.Prelude.{ℕ, ◌+◌, ◌-◌, ◌*◌, ◌^◌, ◌≤◌, ◌<◌, ◌≡◌, ◌↔◌, ◌≢◌, true, false, cond, T, length, Some as some}
 use mathlib.Core.List.{List, [], ◌∷◌, ◌++◌, Memᴰ}
-use Rattle.std.proofs.Math.Option.{some}
 use Rattle.model.specs.Lists.{collect, fold_left}
 use Rattle.model.specs.Lines.{Line, lines, Field, fields, is_name, number}
 use Rattle.model.specs.Text.{show, comma}

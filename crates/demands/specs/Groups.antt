@@ -1,10 +1,9 @@
 -- Document 02, Change 13: "A fact of a group not admitted is read, its name is taken and it counts towards every limit, but for that
 -- ask it is not retainable, is no ambient root, and is neither filed, scanned nor kept"; "The older form reads as group 0 with all
 -- groups admitted". What is read, taken and counted is said of all facts (Demand1, Counts, FileOrder).
-use Rattle.std.specs.Prelude.{ℕ, ◌≤◌, ◌≡◌, Bool, cond, not, T, eqb, get_or}
+use Rattle.std.specs.Prelude.{ℕ, ◌≤◌, ◌≡◌, Bool, cond, not, T, eqb, get_or, Some as some}
 use Prim.Native.String.{String}
 use mathlib.Core.List.{List, [], ◌∷◌, ◌++◌, map, Memᴰ}
-use Rattle.std.proofs.Math.Option.{some}
 use Rattle.model.specs.Lists.{keep}
 use Rattle.model.specs.Names.{bytes, mem}
 use Rattle.model.specs.Lines.{Line, lines, Field, fields, number}

@@ -1,8 +1,7 @@
 -- Document 02, Change 6: the names that are no free names; and that hiding a name which no line spells, and to which no token is
 -- trimmed, changes no answer.
-use Rattle.std.specs.Prelude.{ℕ, ◌+◌, ◌<◌, ◌≡◌, ◌≢◌, Bool, not, T, length, get_or}
+use Rattle.std.specs.Prelude.{ℕ, ◌+◌, ◌<◌, ◌≡◌, ◌≢◌, Bool, not, T, length, get_or, Some as some}
 use mathlib.Core.List.{List, [], ◌∷◌, ◌++◌, map, Memᴰ}
-use Rattle.std.proofs.Math.Option.{some}
 use Rattle.model.specs.Lists.{keep}
 use Rattle.model.specs.Names.{Name, bytes, starts_with}
 use Rattle.model.specs.Lines.{Line, lines, fields, is_name}

@@ -1,7 +1,6 @@
 -- Demand 1, the refusals 1 to 4 and 13: what documents 01 and 02 say that each field of a line must be, and which refusal a
 -- line gets.
-use Rattle.std.specs.Prelude.{ℕ, zero, suc, ◌+◌, ◌≤◌, ◌<◌, ◌≡◌, Bool, true, false, cond, not, List, [], ◌∷◌, ◌++◌, ◌↔◌, ◌≢◌, T, leb, ltb, length}
-use Rattle.std.proofs.Math.Option.{Option, none, some, get_or}
+use Rattle.std.specs.Prelude.{ℕ, zero, suc, ◌+◌, ◌≤◌, ◌<◌, ◌≡◌, Bool, true, false, cond, not, List, [], ◌∷◌, ◌++◌, ◌↔◌, ◌≢◌, T, leb, ltb, length, Option, None as none, Some as some, unwrap_or as get_or}
 use Rattle.model.specs.Lists.{holds}
 use Rattle.model.specs.Lines.{Field, is_name, number}
 use Rattle.model.specs.Reading.{refused, word, op_words, kinds, content, State, place, may_stand, is_position, fixed_count, parse}

@@ -6,7 +6,7 @@ use Rattle.model.specs.Names.{Name, order}
 use Rattle.model.specs.Reading.{Decl, Summary, State}
 use Rattle.model.specs.Rounds.{definitions}
 use Rattle.model.specs.Precedence.{parts, late_rows}
-use Rattle.model.specs.declared.Order.TheVariants.{Before}
+use Rattle.std.specs.declared.cmp.Ordering.TheVariants.{Less as Before}
 use Rattle.model.specs.declared.Row.{Row}
 use Rattle.demands.specs.LinesRead.{LinesRead}
 use Rattle.demands.specs.Reasons.{Numbers}

@@ -1,8 +1,7 @@
 -- "Two accepted files that differ, line for line, only in root lines of other queries give the same kept lines .., visits
 -- and rounds.": of each ask, by the queries other than its own.
-use Rattle.std.specs.Prelude.{ℕ, ◌≡◌}
+use Rattle.std.specs.Prelude.{ℕ, ◌≡◌, Some as some}
 use mathlib.Core.List.{List, [], ◌∷◌, Memᴰ}
-use Rattle.std.proofs.Math.Option.{some}
 use Rattle.model.specs.Names.{bytes}
 use Rattle.model.specs.Lines.{Line, lines, Field, fields, number}
 use Rattle.model.specs.Reading.{Ask, State}

@@ -2,7 +2,7 @@
 -- name, the rows and the number of names met. On an also line the run is the fresh one over all queries of its chain.
 use Rattle.std.specs.Prelude.{ℕ, suc, ◌≤◌, ◌<◌, ◌≡◌, ◌↔◌, ◌⊎◌, false, not, T, length, get_or}
 use mathlib.Core.List.{List, [], ◌∷◌, Memᴰ}
-use Rattle.std.proofs.Math.Option
+use Rattle.std.specs.Option as Option
 use Rattle.model.specs.Lists.{keep}
 use Rattle.model.specs.Names.{Name, mem, order}
 use Rattle.model.specs.Summaries.{Fact}
@@ -10,7 +10,7 @@ use Rattle.model.specs.Reading.{Ask, no_ambients, Root, State}
 use Rattle.model.specs.Pruning.{try_find}
 use Rattle.model.specs.Rounds.{Run, facts, macros, listed, triggers_in, is_ambient_root, end_of}
 use Rattle.model.specs.Reasons.{rows, met_bits, met_number}
-use Rattle.model.specs.declared.Order.TheVariants.{Before}
+use Rattle.std.specs.declared.cmp.Ordering.TheVariants.{Less as Before}
 use Rattle.model.specs.declared.Row.{Row}
 use Rattle.demands.specs.LinesRead.{LinesRead, records_for, Distinct}
 use Rattle.demands.specs.Demand3.{run_of, reached}
@@ -58,7 +58,7 @@ pub data Scanned (a : Ask) (s : State) (line round : ℕ) (free : List Name) : T
 -- "with that name, opened macros included": the name is free in the item, or a macro that is free in it opens to it
 abbrev pub Has : Ask → State → List Name → Name → Type 0
 Has a s free n =
-    Memᴰ n free ⊎ ((m : Name) × Memᴰ m free × Memᴰ n (Option.get_or (try_find (macros (records_for a s)) m) []))
+    Memᴰ n free ⊎ ((m : Name) × Memᴰ m free × Memᴰ n (Option.unwrap_or (try_find (macros (records_for a s)) m) []))
 
 -- "of the lowest round, then the lowest line": no later than another
 abbrev pub NotLater : ℕ → ℕ → ℕ → ℕ → Type 0

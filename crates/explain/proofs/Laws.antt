@@ -5,7 +5,7 @@ use mathlib.Core.Path.{◌≡◌, refl, sym, ◌∙◌, ap, subst}
 use mathlib.Core.Bool.{Bool, true, false}
 use mathlib.Core.Logic.{◌⊎◌}
 use mathlib.Core.List.{List, [], ◌∷◌, ◌++◌, append_assoc}
-use mathlib.Core.Option.{none, some}
+use Rattle.std.specs.Prelude.{None as none, Some as some}
 use lib.Dec.{ltb}
 use lib.ListN.{length, get_or, take}
 use borrow.Author.Tests.{ltb-true, ltb-false}
@@ -27,7 +27,6 @@ use Rattle.words.proofs.Slices.{same_then, same_wider}
 use Rattle.records.specs.States.{ask_at, asks_of, ask_of, asked_at, state_of}
 use Rattle.records.proofs.Asking.{asks_length}
 use Rattle.records.proofs.Chains.{asked_is}
-use Rattle.front.specs.Demand.{verdict_number}
 use Rattle.front.specs.Opening.{Long, Rest, Zeros, TablesZero, state_in, OpenFile, RefusedFile}
 use Rattle.front.proofs.Slices.{rest_self, rest_long, rest_then, slice_cleared, works_cleared, zeros_rest, front_own, left_own, front_short, left_untouched}
 use Rattle.front.proofs.Laws.{open_read, few_asks, closed_file, rest_work}
@@ -276,9 +275,3 @@ found {file} {position} {lent} {room = room} {a} x is =
       held_rows = rw is (omega (arith, n, x.left.inside));
       left = x.left;
     }
-
--- the fields of the answer in numbers
-pub numbers_are : (a : Why) {n : ℕ} → n ≡ verdict_number a.verdict
-    → record { refusal = n; place = a.place; met = a.met; rows = a.rows } ≡ reasons_in_numbers a
-unfolding reasons_in_numbers
-numbers_are a e = rw e

@@ -6,8 +6,8 @@ use mathlib.Core.Path.{◌≡◌, refl, sym, ◌∙◌, ap, subst}
 use mathlib.Core.Logic.{inl, inr, ⊎_elim}
 use mathlib.Core.List.Memᴰ
 use mathlib.Core.List.{List, [], ◌∷◌, map, Memᴰ}
-use mathlib.Core.Option
-use mathlib.Core.Option.{some}
+use Rattle.std.specs.Option as Option
+use Rattle.std.specs.Prelude.{Some as some}
 use lib.Dec.{T, T_not, ltb, eqb, eqb→eq, eqb_refl, nltb→le}
 use lib.ListN.{length, get_or}
 use borrow.Author.Tests.{eq-eqb}
@@ -232,7 +232,7 @@ module _ {file names recs lists : List ℕ} {k : Counts} (x : Filled file names 
       let lb = ((laid x).fits a).frees_small i b l z in
       collect_intro (λ n. n ∷ h.opens n) z
       (Memᴰ.tail (((holds x a).macro b n lb ln).0
-      (subst (λ z. Memᴰ (name n) (Option.get_or (try_find (macros (background_of name recs lists q k.records)) z) [])) (sym e) y)))
+      (subst (λ z. Memᴰ (name n) (Option.unwrap_or (try_find (macros (background_of name recs lists q k.records)) z) [])) (sym e) y)))
 
   -- ---- the supplier
 

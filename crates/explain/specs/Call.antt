@@ -1,6 +1,5 @@
 -- What the core of the call tells and leaves: the rows in words of the run's slice, all else as at the end of a call.
-use Rattle.std.specs.Prelude.{ℕ, ◌*◌, ◌≤◌, ◌<◌, ◌≡◌, List, [], ◌∷◌, length, take, get_or}
-use Rattle.std.proofs.Math.Option.{some}
+use Rattle.std.specs.Prelude.{ℕ, ◌*◌, ◌≤◌, ◌<◌, ◌≡◌, List, [], ◌∷◌, length, take, get_or, Some as some}
 use Rattle.model.specs.Reading.{most_asks}
 use Rattle.model.specs.Outcome.{most_bytes, working_words}
 use Rattle.model.specs.Working.{Working, sizes}

@@ -1,5 +1,5 @@
 // The core of the call that tells why each fact came along: the rows of one position, left in words of the run's slice, and how
-// many of the numbered names are met.
+// many of the numbered names are met. The six lent slices are parameters of their own, as in `filter`.
 #![tactic(auto)]
 
 ghost use Rattle.std.specs.Prelude.{◌*◌, ◌≤◌, ◌<◌, ◌≡◌};
@@ -9,11 +9,11 @@ ghost use Rattle.front.specs.Opening.{Long};
 ghost use Rattle.explain.specs.Call.{reasons_in_numbers, LentTables, TellsRows, MovesRows, HeldOpen, PositionTold};
 ghost use Rattle.explain.specs.Call.{ExplainsTo, FoundReasons};
 
-use front::Opened;
+use firing::tables::RecordTables;
 use model::{Asked, Counts, Refusal, Verdict, Why};
 
-// The answer in numbers: the number of the refusal, 0 for rows; its place; how many of the numbered names are met; how many rows
-// are filled.
+// The answer in numbers: the number of the refusal, 0 for rows; its place; how many of the numbered names are met; how many
+// rows are filled.
 #[repr(C)]
 #[derive(Clone, Copy)]
 pub struct Reasons {
@@ -23,7 +23,22 @@ pub struct Reasons {
     pub rows: usize,
 }
 
-// A refused answer: its place, and both counts 0.
+impl From<Why> for Reasons {
+    ghost from_gives = { λ w r. r ≡ reasons_in_numbers w };
+
+    #[tactic(auto, unfolding(crate::specs::Call::reasons_in_numbers))]
+    fn from(w: Why) -> Reasons {
+        Reasons {
+            refusal: front::verdict_number(w.verdict),
+            place: w.place,
+            met: w.met,
+            rows: w.rows,
+        }
+    }
+}
+
+// A refused answer: its place, and both counts 0. A function in each call, since the answers differ in their counts.
+#[tactic(auto, unfolding(model::specs::Explaining::why))]
 fn refused(r: Refusal, place: u32) -> Why
     ensures { result ≡ why (refusal_at r place) }
 {
@@ -36,24 +51,15 @@ fn refused(r: Refusal, place: u32) -> Why
 }
 
 // Tells the reasons of an ask over the tables: the rows stand in the slice of the references, which the reading has done with.
-fn tell(
-    file: &[u8],
-    names: &[u32],
-    refs: &mut [u32],
-    recs: &[u32],
-    lists: &[u32],
-    run: &mut [u32],
-    k: Counts,
-    a: Asked,
-) -> Why
-    requires { LentTables file.now names.now refs.old recs.now lists.now run.old k a }
-    ensures { TellsRows file.now names.now recs.now lists.now k a
+fn tell(file: &[u8], tables: &RecordTables, refs: &mut [u32], run: &mut [u32], a: Asked) -> Why
+    requires { LentTables file.now tables.now.names.now refs.old tables.now.recs.now tables.now.lists.now run.old tables.now.k a }
+    ensures { TellsRows file.now tables.now.names.now tables.now.recs.now tables.now.lists.now tables.now.k a
         refs.old refs.new run.old run.new result }
 {
-    scan::run_ask(file, names, recs, lists, run, k, a);
-    suppliers::find_suppliers(names, recs, lists, run, k, a);
-    let rows = reasons::put_rows(names, refs, recs, lists, run, k);
-    let met = bits::count_met(run, k.names);
+    scan::run_ask(file, tables, run, a);
+    suppliers::find_suppliers(tables, run, a);
+    let rows = reasons::put_rows(tables, refs, run);
+    let met = bits::count_met(run, tables.k.names);
     Why {
         verdict: Verdict::Accepted,
         place: 0,
@@ -99,16 +105,18 @@ fn answer_position(
         (six w0.old w1.old w2.old w3.old w4.old w5.old)
         (six w0.new w1.new w2.new w3.new w4.new w5.new) result }
 {
-    if position == 0 {
-        front::close_file(w0, w1, w2, w3, w4, w5);
-        return refused(Refusal::Position, 0);
-    }
-    if k.asks < position {
+    if position == 0 || k.asks < position {
         front::close_file(w0, w1, w2, w3, w4, w5);
         return refused(Refusal::Position, 0);
     }
     let a = records::ask_at(w3, position - 1);
-    let told = tell(file, w0, w1, w3, w4, w5, k, a);
+    let tables = RecordTables {
+        names: &*w0,
+        recs: &*w3,
+        lists: &*w4,
+        k,
+    };
+    let told = tell(file, &tables, w1, w5, a);
     move_rows(w0, w1, w2, w3, w4, w5, told.rows);
     told
 }
@@ -133,8 +141,8 @@ pub fn explain(
         return refused(Refusal::Working, 0);
     }
     match front::open_file(file, w0, w1, w2, w3, w4, w5) {
-        Opened::Read(k) => answer_position(file, position, w0, w1, w2, w3, w4, w5, k),
-        Opened::Refused(r, place) => refused(r, place),
+        Ok(k) => answer_position(file, position, w0, w1, w2, w3, w4, w5, k),
+        Err(r) => refused(r.refusal, r.place),
     }
 }
 
@@ -154,18 +162,5 @@ pub fn find_rows(
         (six w0.old w1.old w2.old w3.old w4.old w5.old) room result
         (six w0.new w1.new w2.new w3.new w4.new w5.new) }
 {
-    in_numbers(explain(file, position, w0, w1, w2, w3, w4, w5, room))
-}
-
-// The answer in numbers.
-fn in_numbers(w: Why) -> Reasons
-    ensures { result ≡ reasons_in_numbers w }
-{
-    let verdict = w.verdict;
-    Reasons {
-        refusal: front::verdict_number(verdict),
-        place: w.place,
-        met: w.met,
-        rows: w.rows,
-    }
+    Reasons::from(explain(file, position, w0, w1, w2, w3, w4, w5, room))
 }

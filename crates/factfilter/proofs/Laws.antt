@@ -29,18 +29,10 @@ use Rattle.explain.specs.Call.{rows_told, ExplainsTo}
 use Rattle.precedence.specs.Call.{rows_of_check, Orders}
 use Rattle.sweep.specs.Demands as second
 use Rattle.printing.proofs.Answers.{swept_room}
-use Rattle.factfilter.specs.Input.{bytes_read}
 use Rattle.factfilter.specs.Filters.{own_slices, Filters}
 use Rattle.factfilter.specs.Explains.{row_words, Explains}
 use Rattle.factfilter.specs.Sweeps.{Sweeps}
 use Rattle.factfilter.specs.Orders.{late_words, OrdersFile}
-use Rattle.factfilter.specs.declared.Input.{Input}
-use Rattle.factfilter.specs.declared.Input.TheVariants.{Bytes}
-
--- bytes that were read lie in the buffer
-pub read_within : (i : Input) (n room : ℕ) → i ≡ Bytes n → bytes_read i ≤ room → n ≤ room
-unfolding bytes_read
-read_within i n room e h = rw e at h
 
 -- no working slice of the program is too short
 own_long : ShortSlice own_slices → ⊥

@@ -1,4 +1,3 @@
-pub mod Input
 pub mod Filters
 pub mod Explains
 pub mod Sweeps

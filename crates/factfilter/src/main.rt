@@ -1,5 +1,5 @@
-// Document 01's program: reads a file from standard input and prints what a call comes to, the kept records of each ask or, by a
-// word, document 02's further calls and the summaries of the facts; or the refusal. A refusal is said in words on standard
+// Document 01's program: reads a file from standard input and prints what a call comes to, the kept records of each ask or, by
+// a word, document 02's further calls and the summaries of the facts; or the refusal. A refusal is said in words on standard
 // error too.
 #![tactic(auto)]
 
@@ -10,12 +10,12 @@ mod summaries;
 mod swept;
 mod why;
 
-ghost use Rattle.std.specs.Prelude.{◌≤◌, length};
-ghost use Rattle.factfilter.specs.Input.{bytes_read};
+ghost use Rattle.std.specs.Prelude.{◌≤◌, length, IfOk};
 
+use errors::Error;
 use std::env::{Env, FillError};
-use std::io::Read;
-use text::{Cursor, NumberStep};
+use std::io::{self, Input, Read, Write};
+use text::Cursor;
 
 // A call: the lists, the reasons at a position, the lists by the second engine, the check of definitions, or the summaries.
 #[derive(Clone, Copy)]
@@ -27,44 +27,25 @@ enum Call {
     Summaries,
 }
 
-// What the words after the program's name ask for: a call; or there is none, for want of a position or as no word says it.
-#[derive(Clone, Copy)]
-enum Command {
-    Call(Call),
-    NoPosition,
-    Unknown,
-}
-
-// What reading standard input comes to: so many bytes to its end or up to a full buffer, or a read that failed.
-#[derive(Clone, Copy)]
-enum Input {
-    Bytes(usize),
-    Failed,
-}
-
-// Reads standard input to its end, or until the buffer is full.
-fn read_input<R: Read>(input: &mut R, buffer: &mut [u8]) -> Input
-    ensures { bytes_read result ≤ length buffer.new }
+// Reads standard input to its end, or until the buffer is full; how many bytes those are. `read_full` of `cases`, which is of
+// the test programs, takes a failed read for the end; here it is told.
+fn read_input<R: Read>(input: &mut R, buffer: &mut [u8]) -> io::Result<usize>
+    ensures { IfOk result (λ n. n ≤ length buffer.new) }
 {
     let mut n: usize = 0;
+    // A read takes as many bytes as it has, so no range counts the turns.
     while n < buffer.len() {
-        match input.read(&mut buffer[n..]) {
-            Ok(more) => {
-                if more == 0 {
-                    return Input::Bytes(n);
-                }
-                n += more;
-            }
-            Err(_) => {
-                return Input::Failed;
-            }
+        let more = input.read(&mut buffer[n..])?;
+        if more == 0 {
+            return Ok(n);
         }
+        n += more;
     }
-    Input::Bytes(n)
+    Ok(n)
 }
 
-// The position that a word is: a decimal number of at most 65,535.
-fn position_of(word: &[u8]) -> Command
+// The call that a position of `why` asks for, a decimal number of at most 65,535.
+fn position_of(word: &[u8]) -> Result<Call, Error>
     requires { length word.now ≤ 64 }
 {
     let c = Cursor {
@@ -72,8 +53,8 @@ fn position_of(word: &[u8]) -> Command
         end: word.len(),
     };
     match c.number(word, text::MOST_NUMBER) {
-        NumberStep::Number(n, _) => Command::Call(Call::Why(n as usize)),
-        NumberStep::Refused(_) => Command::NoPosition,
+        Ok((n, _)) => Ok(Call::Why(n as usize)),
+        Err(_) => Err(Error::NoPosition),
     }
 }
 
@@ -87,7 +68,8 @@ fn has_word(rt: &impl Env, i: usize) -> bool {
     }
 }
 
-// Reads the word at a place; its length, 0 where there is none or it is longer than the buffer.
+// Reads the word at a place; its length, 0 where there is none or it is longer than the buffer: both callers take an empty word for
+// none that they know.
 fn read_word(rt: &impl Env, i: usize, word: &mut [u8]) -> usize
     ensures { result ≤ length word.new }
 {
@@ -98,9 +80,9 @@ fn read_word(rt: &impl Env, i: usize, word: &mut [u8]) -> usize
 }
 
 // What the position behind `why` asks for, the only word there.
-fn ask_why(rt: &impl Env) -> Command {
+fn ask_why(rt: &impl Env) -> Result<Call, Error> {
     if !has_word(rt, 2) || has_word(rt, 3) {
-        return Command::NoPosition;
+        return Err(Error::NoPosition);
     }
     let mut word = [0u8; 64];
     let n = read_word(rt, 2, &mut word);
@@ -108,78 +90,71 @@ fn ask_why(rt: &impl Env) -> Command {
 }
 
 // What the first word asks for.
-fn ask_word(rt: &impl Env, word: &[u8]) -> Command {
+fn ask_word(rt: &impl Env, word: &[u8]) -> Result<Call, Error> {
     let end = word.len();
     if text::same_text(word, 0, end, b"why") {
         return ask_why(rt);
     }
     if has_word(rt, 2) {
-        return Command::Unknown;
+        return Err(Error::UnknownWord);
     }
     if text::same_text(word, 0, end, b"list") {
-        return Command::Call(Call::List);
+        return Ok(Call::List);
     }
     if text::same_text(word, 0, end, b"sweep") {
-        return Command::Call(Call::Sweep);
+        return Ok(Call::Sweep);
     }
     if text::same_text(word, 0, end, b"order") {
-        return Command::Call(Call::Order);
+        return Ok(Call::Order);
     }
     if text::same_text(word, 0, end, b"summaries") {
-        return Command::Call(Call::Summaries);
+        return Ok(Call::Summaries);
     }
-    Command::Unknown
+    Err(Error::UnknownWord)
 }
 
 // What the words after the program's name ask for.
-fn read_command(rt: &impl Env) -> Command {
+fn read_command(rt: &impl Env) -> Result<Call, Error> {
     if !has_word(rt, 1) {
-        return Command::Call(Call::List);
+        return Ok(Call::List);
     }
     let mut word = [0u8; 64];
     let n = read_word(rt, 1, &mut word);
     ask_word(rt, &word[..n])
 }
 
-// Makes a call of a file and prints what it comes to.
-fn run(file: &[u8], c: Call)
+// Makes a call of a file and prints what it comes to; a refusal is an error too.
+fn run<W: Write>(writer: &mut W, file: &[u8], c: Call) -> Result<(), Error>
     requires { length file.now ≤ 65536 }
 {
     match c {
-        Call::List => list::run(file),
-        Call::Why(position) => why::run(file, position),
-        Call::Sweep => swept::run(file),
-        Call::Order => order::run(file),
-        Call::Summaries => summaries::run(file),
+        Call::List => list::run(writer, file),
+        Call::Why(position) => why::run(writer, file, position),
+        Call::Sweep => swept::run(writer, file),
+        Call::Order => order::run(writer, file),
+        Call::Summaries => summaries::run(writer, file),
     }
 }
 
 // Makes a call of the file on standard input.
-fn answer(rt: &impl std::io::Input, c: Call) {
-    let mut buffer = io::large_buffer();
+fn answer<W: Write>(rt: &impl Input, writer: &mut W, c: Call) -> Result<(), Error> {
+    let mut buffer = [0u8; 65536];
     let mut input = rt.reader();
-    match read_input(&mut input, &mut buffer) {
-        Input::Bytes(n) => run(&buffer[..n], c),
-        Input::Failed => {
-            io::write_all(errors::STDERR, b"standard input cannot be read\n");
-        }
-    }
+    let Ok(n) = read_input(&mut input, &mut buffer) else {
+        return Err(Error::Unread);
+    };
+    run(writer, &buffer[..n], c)
+}
+
+// Makes the call that the words ask for. The buffer is in `answer`: behind an early return it would be cleared twice.
+fn serve<W: Write>(rt: &(impl Env + Input), writer: &mut W) -> Result<(), Error> {
+    let c = read_command(rt)?;
+    answer(rt, writer, c)
 }
 
 fn main(rt: HostRuntime) {
-    match read_command(&rt) {
-        Command::Call(c) => answer(&rt, c),
-        Command::NoPosition => {
-            io::write_all(
-                errors::STDERR,
-                b"why takes a position, a number of at most 65,535\n",
-            );
-        }
-        Command::Unknown => {
-            io::write_all(
-                errors::STDERR,
-                b"there is no such word; there are list, why POSITION, sweep, order and summaries\n",
-            );
-        }
+    if let Err(e) = serve(&rt, &mut rt.stdout()) {
+        // Where standard error cannot be written, nothing more can be said.
+        let _ = errors::say(&mut rt.stderr(), e);
     }
 }

@@ -2,8 +2,9 @@
 ghost use Rattle.std.specs.Prelude.{◌≤◌, length};
 ghost use Rattle.factfilter.specs.Orders.{late_words, OrdersFile};
 
-use crate::errors;
+use crate::errors::{self, Error};
 use model::Ordered;
+use std::io::Write;
 
 // The words of the rows that a call can list: two for each name use.
 const ROW_WORDS: usize = 2 * model::MOST_USES;
@@ -34,14 +35,10 @@ fn check_file(file: &[u8], rows: &mut [u32]) -> Ordered
     o
 }
 
-// Checks the definitions of a file and prints the rows.
-pub fn run(file: &[u8]) {
+// Checks the definitions of a file and prints the rows; a refusal is an error too.
+pub fn run<W: Write>(writer: &mut W, file: &[u8]) -> Result<(), Error> {
     let mut rows = [0u32; ROW_WORDS];
     let o = check_file(file, &mut rows);
-    if !row_printing::print_order(file, o, &rows) {
-        errors::say_unwritten();
-        return;
-    }
-    let v = o.verdict;
-    errors::say_refusal(v, o.place);
+    row_printing::print_order(writer, file, o, &rows)?;
+    errors::told(o.verdict, o.place)
 }

@@ -2,12 +2,13 @@
 ghost use Rattle.macros.specs.Macros.{Filled};
 ghost use Rattle.reader.specs.Lines.{TermsStand};
 
-use crate::errors;
-use front::Opened;
-use model::{Counts, Refusal, Verdict};
+use crate::errors::Error;
+use model::{Counts, Refusal};
+use std::io::{self, Write};
 
-// Prints the summary of each fact of the tables and how many there are; whether each line was written.
-fn print(
+// Prints the summary of each fact of the tables and how many there are.
+fn print<W: Write>(
+    writer: &mut W,
     file: &[u8],
     names: &[u32],
     refs: &[u32],
@@ -15,26 +16,21 @@ fn print(
     recs: &[u32],
     lists: &[u32],
     k: Counts,
-) -> bool
+) -> io::Result<()>
     requires { Filled file.now names.now recs.now lists.now k × TermsStand refs.now rows.now recs.now k }
 {
-    if !summary_printing::put_facts(file, names, refs, rows, recs, lists, k, true) {
-        return false;
-    }
-    printing::print_count(b"facts", summary_printing::count_facts(recs, k))
+    summary_printing::put_facts(writer, file, names, refs, rows, recs, lists, k, true)?;
+    printing::print_count(writer, b"facts", summary_printing::count_facts(recs, k))
 }
 
-// Prints a refusal, and says it in words.
-fn refuse(r: Refusal, place: u32) {
-    if !printing::print_refusal(r, place) {
-        errors::say_unwritten();
-        return;
-    }
-    errors::say_refusal(Verdict::Refused(r), place);
+// Prints a refusal, which is an error too.
+fn refuse<W: Write>(writer: &mut W, r: Refusal, place: u32) -> Result<(), Error> {
+    printing::print_refusal(writer, r, place)?;
+    Err(Error::Refused(r, place))
 }
 
-// Opens a file over working slices of its own and prints the summaries of its facts.
-pub fn run(file: &[u8]) {
+// Opens a file over working slices of its own and prints the summaries of its facts; a refusal is an error too.
+pub fn run<W: Write>(writer: &mut W, file: &[u8]) -> Result<(), Error> {
     let mut w0 = [0u32; model::WORKING_WORDS];
     let mut w1 = [0u32; model::WORKING_WORDS];
     let mut w2 = [0u32; model::WORKING_WORDS];
@@ -42,11 +38,7 @@ pub fn run(file: &[u8]) {
     let mut w4 = [0u32; model::WORKING_WORDS];
     let mut w5 = [0u32; model::WORKING_WORDS];
     match front::open_file(file, &mut w0, &mut w1, &mut w2, &mut w3, &mut w4, &mut w5) {
-        Opened::Read(k) => {
-            if !print(file, &w0, &w1, &w2, &w3, &w4, k) {
-                errors::say_unwritten();
-            }
-        }
-        Opened::Refused(r, place) => refuse(r, place),
+        Ok(k) => Ok(print(writer, file, &w0, &w1, &w2, &w3, &w4, k)?),
+        Err(r) => refuse(writer, r.refusal, r.place),
     }
 }

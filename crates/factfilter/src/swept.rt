@@ -4,19 +4,21 @@ ghost use Rattle.model.specs.Lists.{sum};
 ghost use Rattle.model.specs.Outcome.{most_kept};
 ghost use Rattle.factfilter.specs.Sweeps.{Sweeps};
 
-use crate::errors;
+use crate::errors::{self, Error};
 use model::Swept;
+use std::io::{self, Write};
 
-// Prints the lines of an answer; whether each was written.
-fn print(file: &[u8], a: Swept, out: &[u32]) -> bool
+// Prints the lines of an answer.
+fn print<W: Write>(writer: &mut W, file: &[u8], a: Swept, out: &[u32]) -> io::Result<()>
     requires { (length file.now ≤ 65536) × (sum a.kept ≤ length out.now) }
 {
     let mut starts = [0u32; 65536];
     let mut text = [0u8; 65664];
-    printing::print_sweep(file, a, out, &mut starts, &mut text)
+    printing::print_sweep(writer, file, a, out, &mut starts, &mut text)
 }
 
-// Sweeps a file over working slices of its own and a result slice that is long enough for every accepted file.
+// Sweeps a file over working slices of its own and a result slice that is long enough for every accepted file. Apart
+// from `filter_file`, since the two calls differ in what they answer.
 fn sweep_file(file: &[u8], out: &mut [u32]) -> Swept
     requires { most_kept ≤ length out.old }
     ensures { Sweeps file.now out.old result out.new }
@@ -32,16 +34,12 @@ fn sweep_file(file: &[u8], out: &mut [u32]) -> Swept
     )
 }
 
-// Sweeps a file and prints the answer.
-pub fn run(file: &[u8])
+// Sweeps a file and prints the answer; a refusal is an error too.
+pub fn run<W: Write>(writer: &mut W, file: &[u8]) -> Result<(), Error>
     requires { length file.now ≤ 65536 }
 {
     let mut out = [0u32; model::MOST_KEPT];
     let a = sweep_file(file, &mut out);
-    if !print(file, a, &out) {
-        errors::say_unwritten();
-        return;
-    }
-    let v = a.verdict;
-    errors::say_refusal(v, a.place);
+    print(writer, file, a, &out)?;
+    errors::told(a.verdict, a.place)
 }

@@ -2,14 +2,15 @@
 ghost use Rattle.std.specs.Prelude.{◌≤◌, length};
 ghost use Rattle.factfilter.specs.Explains.{row_words, Explains};
 
-use crate::errors;
+use crate::errors::{self, Error};
 use model::Why;
+use std::io::Write;
 
 // The words of the rows that a call can list.
 const ROW_WORDS: usize = 2 * model::MOST_ROWS;
 
 // Tells the reasons at a position of a file, over working slices of its own and room for the rows of every file; the words of
-// the rows go to a slice.
+// the rows go to a slice. Apart from `check_file`, since the two calls differ in what they are asked and answer.
 fn explain_file(file: &[u8], position: usize, rows: &mut [u32]) -> Why
     requires { row_words ≤ length rows.old }
     ensures { Explains file.now position result rows.new }
@@ -35,14 +36,10 @@ fn explain_file(file: &[u8], position: usize, rows: &mut [u32]) -> Why
     w
 }
 
-// Tells the reasons at a position of a file and prints them.
-pub fn run(file: &[u8], position: usize) {
+// Tells the reasons at a position of a file and prints them; a refusal is an error too.
+pub fn run<W: Write>(writer: &mut W, file: &[u8], position: usize) -> Result<(), Error> {
     let mut rows = [0u32; ROW_WORDS];
     let w = explain_file(file, position, &mut rows);
-    if !row_printing::print_why(file, w, &rows) {
-        errors::say_unwritten();
-        return;
-    }
-    let v = w.verdict;
-    errors::say_refusal(v, w.place);
+    row_printing::print_why(writer, file, w, &rows)?;
+    errors::told(w.verdict, w.place)
 }

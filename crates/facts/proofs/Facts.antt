@@ -29,10 +29,10 @@ use Rattle.triggers.specs.Entries.{disjuncts_of, Entries, entries_base, last_fla
 use Rattle.summary.specs.declared.Limit.{Limit}
 use Rattle.summary.specs.declared.Limit.TheVariants as limit
 use Rattle.summary.specs.declared.Summary.{Summary}
-use Rattle.summary.specs.declared.Summarized.TheVariants as summarized
+use Rattle.std.specs.Prelude.{Result, Ok, Err}
 use Rattle.summary.specs.Facts.{Asked, fact_kind, fact_names, names_then, fact_summary, limited, Lists, Slices}
 use Rattle.summary.proofs.Answering.{over_none, limited_done}
-use Rattle.model.specs.declared.Step.TheVariants as step
+use Rattle.model.specs.Steps as step
 use Rattle.model.specs.Outcome.{working_words}
 use Rattle.records.specs.Columns.{assume_kind, code_of, fact_column, next_column, first_column, taken_column, entry_word, taken_at}
 use Rattle.records.specs.States.{free_at, fact_at, summary_at, root_at, hides_at, excluded_of, state_of}
@@ -82,16 +82,16 @@ data Passes (x : Summary) : Limit → Type 0 where
   uses_passed : x.named ≤ most_names → most_uses < x.uses → Passes x limit.Uses
 
 -- a summary that is none passes its limit
-limited_over : (x : Summary) {l : Limit} → summarized.Over l ≡ limited x → Passes x l
+limited_over : (x : Summary) {l : Limit} → Err l ≡ limited x → Passes x l
 unfolding limited
 limited_over x {l} e = go (ltb most_names x.named) refl (ltb most_entries x.entries) refl (ltb most_uses x.uses) refl e
   where
-    is : {m : Limit} → summarized.Over l ≡ summarized.Over m → l ≡ m
+    is : {m : Limit} → ◌≡◌ {A = Result Summary Limit} (Err l) (Err m) → l ≡ m
     is p = cc
 
     go : (a : Bool) → ltb most_names x.named ≡ a → (b : Bool) → ltb most_entries x.entries ≡ b → (c : Bool) → ltb most_uses x.uses ≡ c
-        → summarized.Over l ≡ cond a (summarized.Over limit.Names)
-        (cond b (summarized.Over limit.Entries) (cond c (summarized.Over limit.Uses) (summarized.Done x)))
+        → Err l ≡ cond a (Err limit.Names)
+        (cond b (Err limit.Entries) (cond c (Err limit.Uses) (Ok x)))
         → Passes x l
     go true p b q c s e = rw (is e) (names_passed (ltb-true most_names x.named p))
     go false p true q c s e =
@@ -137,7 +137,7 @@ module _ {file names refs rows recs lists : List ℕ} {k : Counts} (st : Standin
 
   module _ {names' rows' recs' lists' : List ℕ} (free : w ≤ 0) where
     -- as many records as may be
-    pub fact_crowded : {x : Summary} → summarized.Done x ≡ limited (summed file names refs rows recs k i t) → most_records ≤ k.records
+    pub fact_crowded : {x : Summary} → Ok x ≡ limited (summed file names refs rows recs k i t) → most_records ≤ k.records
         → Adds file names refs rows recs lists names' rows' recs' lists' k line (said file names i flag group t) (step.Refused refusal.FullRecords)
     fact_crowded done =
         let within = limited_done _ done in
@@ -170,7 +170,7 @@ module _ {file names refs rows recs lists : List ℕ} {k : Counts} (st : Standin
 
     -- the summary passes a limit
     pub fact_over : {l : Limit} {r : Refusal} → r ≡ over_refusal l k.records
-        → summarized.Over l ≡ limited (summed file names refs rows recs k i t)
+        → Err l ≡ limited (summed file names refs rows recs k i t)
         → Adds file names refs rows recs lists names' rows' recs' lists' k line (said file names i flag group t) (step.Refused r)
     unfolding over_refusal
     fact_over e o = rw e (go (limited_over _ o))
@@ -187,7 +187,7 @@ module _ {file names refs rows recs lists : List ℕ} {k : Counts} (st : Standin
 module _ {file names refs rows recs lists names₁ rows' lists₁ names' recs' lists' : List ℕ} {k : Counts} (st : Standing file names refs rows recs lists k)
     (line : ℕ) {i : ℕ} (known : i < k.names) (flag group t : ℕ) (term : t < k.terms) {x : Summary} {next : Counts}
     (few : k.records < most_records) (free : taken_at names i ≡ 0)
-    (done : summarized.Done x ≡ limited (summed file names refs rows recs k i t))
+    (done : Ok x ≡ limited (summed file names refs rows recs k i t))
     (filed_lists : Lists (excluded_of (name_of file names) recs k.records) file names refs rows k.names k.references k.terms i t names₁ rows' lists₁ k.entries k.uses x)
     (slices : Slices names rows lists names₁ rows' lists₁ k.entries k.uses)
     (puts : Puts names₁ recs lists₁ names' recs' lists' k line i flag group t x next) where
@@ -385,7 +385,7 @@ module _ {file names refs rows recs lists : List ℕ} {k : Counts} (st : Standin
 
   -- putting its summary into the tables
   pub fact_puttable : {names₁ rows₁ lists₁ : List ℕ} {line flag group : ℕ} {x : Summary}
-      → summarized.Done x ≡ limited (summed file names refs rows recs k i t)
+      → Ok x ≡ limited (summed file names refs rows recs k i t)
       → Lists (excluded_of (name_of file names) recs k.records) file names refs rows k.names k.references k.terms i t names₁ rows₁ lists₁ k.entries k.uses x
       → Slices names rows lists names₁ rows₁ lists₁ k.entries k.uses → k.records < most_records → line < 4294967296 → flag < 2 → group ≤ most_group
       → Puttable names₁ recs lists₁ k line i flag group t x
@@ -450,7 +450,7 @@ fact_past {names₁ = names₁} {i = i} {k = k} s few low p =
 pub fact_added : {file names refs rows recs lists names₁ rows' lists₁ names' recs' lists' : List ℕ} {k : Counts} → Standing file names refs rows recs lists k
     → (line : ℕ) → {i : ℕ} → i < k.names
     → {w : ℕ} → w ≡ taken_at names i → (flag group t : ℕ) → t < k.terms → {x : Summary} {next : Counts} → w ≤ 0 → k.records < most_records
-    → summarized.Done x ≡ limited (summed file names refs rows recs k i t)
+    → Ok x ≡ limited (summed file names refs rows recs k i t)
     → Lists (excluded_of (name_of file names) recs k.records) file names refs rows k.names k.references k.terms i t names₁ rows' lists₁ k.entries k.uses x
     → Slices names rows lists names₁ rows' lists₁ k.entries k.uses → Puts names₁ recs lists₁ names' recs' lists' k line i flag group t x next
     → Adds file names refs rows recs lists names' rows' recs' lists' k line (said file names i flag group t) (step.On next)

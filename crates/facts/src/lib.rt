@@ -10,8 +10,10 @@ ghost use Rattle.records.specs.Adding.{Standing, Adds, Untouched};
 ghost use Rattle.facts.specs.Putting.{Chains, Puttable, Puts};
 ghost use Rattle.facts.specs.Refusing.{behind_records, over_refusal};
 
-use model::{AsumKind, Counts, Refusal, Step};
-use summary::{Limit, Summarized, Summary};
+use model::{AsumKind, Counts, Refusal};
+use summary::{Limit, Summary};
+
+// The lent slices stay parameters here: as fields of one struct each that a function leaves alone wants a clause of its own.
 
 // Puts the entries from `from` on up to `to`, which are those of the record `fact`, on the chains of their names.
 fn chain_entries(names: &mut [u32], lists: &mut [u32], from: usize, to: usize, fact: usize)
@@ -19,21 +21,18 @@ fn chain_entries(names: &mut [u32], lists: &mut [u32], from: usize, to: usize, f
         × (working_words ≤ length names.old) × (working_words ≤ length lists.old) }
     ensures { Chains names.old lists.old names.new lists.new from to fact }
 {
-    let mut e = from;
-    while e < to {
-        let k = e;
-        let n = words::at(lists, triggers::ENTRIES + k) % triggers::LAST;
-        e += 1;
-        lists[records::FACT + k] = fact as u32;
+    for e in from..to {
+        let n = words::at(lists, triggers::ENTRIES + e) % triggers::LAST;
+        lists[records::FACT + e] = fact as u32;
         if triggers::NO_NAME <= n {
             continue;
         }
-        lists[records::NEXT + k] = names[records::FIRST + n];
-        names[records::FIRST + n] = e as u32;
+        lists[records::NEXT + e] = names[records::FIRST + n];
+        names[records::FIRST + n] = (e + 1) as u32;
     }
 }
 
-// The code of a fact's kind.
+// The code of a fact's kind. No `From`, which has no `requires`: the code has to fit in a word.
 fn code(kind: AsumKind) -> usize
     requires { code_of kind < 4294967296 }
     ensures { result ≡ code_of kind }
@@ -97,7 +96,8 @@ fn behind_records(records: usize) -> Refusal
     Refusal::FullTriggers
 }
 
-// The refusal where a fact passes a limit of its summary: names come before all others.
+// The refusal where a fact passes a limit of its summary: names come before all others. No `From`: entries and uses are refused
+// by how many records there are.
 fn over_refusal(limit: Limit, records: usize) -> Refusal
     ensures { result ≡ over_refusal limit records }
 {
@@ -108,7 +108,8 @@ fn over_refusal(limit: Limit, records: usize) -> Refusal
     }
 }
 
-// Adds the fact of an `assume` record, its name and its term by number: its entries stand in the tables whatever its flag and its group.
+// Adds the fact of an `assume` record, its name and its term by number: its entries stand in the tables whatever its flag and
+// its group.
 pub fn add_fact(
     file: &[u8],
     names: &mut [u32],
@@ -122,7 +123,7 @@ pub fn add_fact(
     flag: usize,
     group: usize,
     t: usize,
-) -> Step
+) -> Result<Counts, Refusal>
     requires { (k.names ≤ most_names → Standing file.now names.old refs.now rows.old recs.old lists.old k
         × (name < k.names)) × (t < k.terms) × (line < 4294967296) × (flag < 2)
         × (group ≤ most_group) }
@@ -134,10 +135,10 @@ pub fn add_fact(
 {
     let count = k.records;
     if model::MOST_NAMES < k.names {
-        return Step::Refused(Refusal::FullNames);
+        return Err(Refusal::FullNames);
     }
     if 0 < words::at(names, records::TAKEN + name) {
-        return Step::Refused(Refusal::Repeated);
+        return Err(Refusal::Repeated);
     }
     match summary::summarize_assumption(
         file,
@@ -154,12 +155,12 @@ pub fn add_fact(
         k.entries,
         k.uses,
     ) {
-        Summarized::Done(s) => {
+        Ok(s) => {
             if model::MOST_RECORDS <= count {
-                return Step::Refused(Refusal::FullRecords);
+                return Err(Refusal::FullRecords);
             }
-            Step::On(put_fact(names, recs, lists, k, line, name, flag, group, t, s))
+            Ok(put_fact(names, recs, lists, k, line, name, flag, group, t, s))
         }
-        Summarized::Over(limit) => Step::Refused(over_refusal(limit, count)),
+        Err(limit) => Err(over_refusal(limit, count)),
     }
 }

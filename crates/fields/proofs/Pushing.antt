@@ -1,8 +1,7 @@
 -- Laws of pushing references field by field: what a step of a cursor says of the fields left, and the turns of the loops.
-use Prim.Native.Nat.{ℕ, zero, suc, ◌+◌, ◌-◌, ◌≤◌, ◌<◌}
-use native.Mathlib.Nat.{not-suc-le-zero}
+use Prim.Native.Nat.{ℕ, suc, ◌+◌, ◌-◌, ◌≤◌, ◌<◌}
 use native.Mathlib.Omega.{arith}
-use mathlib.Core.Path.{◌≡◌, refl, sym, ap, ◌∙◌}
+use mathlib.Core.Path.{◌≡◌, refl, sym, ap, subst, ◌∙◌}
 use mathlib.Core.Logic.{⊎_elim}
 use mathlib.Core.Bool.{Bool, true, false, cond}
 use mathlib.Core.List.{List, [], ◌∷◌}
@@ -13,8 +12,6 @@ use Rattle.model.specs.Reading.{Result, ok, refused, ◌>>=◌, next, number_fie
 use Rattle.model.specs.declared.Refusal.{Refusal}
 use Rattle.model.proofs.ResultLaws.{bind_ok, ok_eq}
 use Rattle.text.specs.declared.Cursor.{Cursor}
-use Rattle.text.specs.declared.NumberStep.{NumberStep}
-use Rattle.text.specs.declared.NumberStep.TheVariants as numbered
 use Rattle.text.specs.Parts.{Placed, fields_left, number_result, term_at, number_at}
 use Rattle.text.proofs.Laws.{Onward, term_law, term_next, number_law, left_none, left_some}
 use Rattle.terms.proofs.Laws.{below}
@@ -22,32 +19,30 @@ use Rattle.additions.specs.Additions.{references_pushed}
 use Rattle.additions.proofs.Laws.{pushed_in, pushed_full}
 use Rattle.words.specs.Slices.{SameBut}
 use Rattle.words.proofs.Slices.{same_self, same_set}
-use Rattle.fields.specs.declared.Upto.{Upto}
-use Rattle.fields.specs.declared.Upto.TheVariants as upto
 use Rattle.fields.specs.Pushing.{reference, most_number, ReferencesRead, push_one, push_many, push_rest, push_groups, upto_result, Ahead, Pushes, Pushable}
 
 -- ---- a field read
 
-module _ {file : List ℕ} {c : Cursor} (p : Placed file c) (limit : ℕ) {r : NumberStep} where
+module _ {file : List ℕ} {c : Cursor} (p : Placed file c) (limit : ℕ) {r : Result (ℕ × Cursor)} where
   -- the next field is a term
-  pub term_read : {t : ℕ} {n : Cursor} → r ≡ term_at limit file c → r ≡ numbered.Number t n
+  pub term_read : {t : ℕ} {n : Cursor} → r ≡ term_at limit file c → r ≡ ok (t, n)
       → next (term_field limit) (fields_left file c) ≡ ok (t, fields_left file n)
   unfolding number_result
   term_read a b = sym (term_law file c p limit) ∙ ap (number_result file) (sym a ∙ b)
 
   -- it is refused
-  pub term_not : {x : Refusal} → r ≡ term_at limit file c → r ≡ numbered.Refused x → next (term_field limit) (fields_left file c) ≡ refused x
+  pub term_not : {x : Refusal} → r ≡ term_at limit file c → r ≡ refused x → next (term_field limit) (fields_left file c) ≡ refused x
   unfolding number_result
   term_not a b = sym (term_law file c p limit) ∙ ap (number_result file) (sym a ∙ b)
 
   -- the next field is a number
-  pub number_read : {t : ℕ} {n : Cursor} → r ≡ number_at limit file c → r ≡ numbered.Number t n
+  pub number_read : {t : ℕ} {n : Cursor} → r ≡ number_at limit file c → r ≡ ok (t, n)
       → next (number_field limit) (fields_left file c) ≡ ok (t, fields_left file n)
   unfolding number_result
   number_read a b = sym (number_law file c p limit) ∙ ap (number_result file) (sym a ∙ b)
 
   -- it is refused
-  pub number_not : {x : Refusal} → r ≡ number_at limit file c → r ≡ numbered.Refused x
+  pub number_not : {x : Refusal} → r ≡ number_at limit file c → r ≡ refused x
       → next (number_field limit) (fields_left file c) ≡ refused x
   unfolding number_result
   number_not a b = sym (number_law file c p limit) ∙ ap (number_result file) (sym a ∙ b)
@@ -71,30 +66,32 @@ left_cons file c h =
 
 -- ---- answers
 
-module _ {file refs refs' : List ℕ} {run : ReferencesRead} {from : ℕ} {c : Cursor} {r : Upto} (p : Pushes file refs refs' run from c r) where
+module _ {file refs refs' : List ℕ} {run : ReferencesRead} {from : ℕ} {c : Cursor} {r : Result (ℕ × Cursor)} (p : Pushes file refs refs' run from c r) where
   -- what a run that is done comes to
-  pub run_at : {end : ℕ} {next : Cursor} → r ≡ upto.At end next → run ≡ ok (refs', end, fields_left file next)
+  pub run_at : {end : ℕ} {next : Cursor} → r ≡ ok (end, next) → run ≡ ok (refs', end, fields_left file next)
   unfolding upto_result
   run_at e = sym p.answer ∙ ap (upto_result file refs') e
 
   -- what a run that is refused comes to
-  pub run_not : {x : Refusal} → r ≡ upto.Refused x → run ≡ refused x
+  pub run_not : {x : Refusal} → r ≡ refused x → run ≡ refused x
   unfolding upto_result
   run_not e = sym p.answer ∙ ap (upto_result file refs') e
 
 module _ {file refs refs' : List ℕ} {run : ReferencesRead} {from : ℕ} {c : Cursor} (k : SameBut 0 most_references refs refs') where
   -- a run that is refused
-  pub pushes_not : (x : Refusal) → run ≡ refused x → Pushes file refs refs' run from c (upto.Refused x)
+  pub pushes_not : (x : Refusal) → run ≡ refused x → Pushes file refs refs' run from c (refused x)
   unfolding upto_result
   pushes_not x e = record { answer = sym e; ahead = λ end next h. let z : ◌≡◌ {A = ℕ} 0 1 = cc in absurd (omega arith); kept = k }
 
   -- a run that is done
   pub pushes_at : (end : ℕ) (n : Cursor) → run ≡ ok (refs', end, fields_left file n) → Ahead file from c end n
-      → Pushes file refs refs' run from c (upto.At end n)
+      → Pushes file refs refs' run from c (ok (end, n))
   unfolding upto_result
   pushes_at end n e a = record {
     answer = sym e;
-    ahead = λ end' n' h. let x : end ≡ end' = cc in let y : n ≡ n' = cc in rw (← x, ← y) a;
+    ahead = λ end' n' h.
+        let pair : ◌≡◌ {A = ℕ × Cursor} (end, n) (end', n') = cc in
+        subst (λ (q : ℕ × Cursor). Ahead file from c q.0 q.1) pair a;
     kept = k;
   }
 
@@ -142,9 +139,9 @@ pushed_kept refs used word = ⊎_elim
 
 module _ {file refs : List ℕ} {used many : ℕ} {c : Cursor} (p : Pushable file refs used many c) (group : ℕ) where
   -- a term that was read is pushed
-  pub one_pushed : {refs' : List ℕ} {t : ℕ} {n : Cursor} {r : NumberStep} → r ≡ term_at many file c → r ≡ numbered.Number t n
+  pub one_pushed : {refs' : List ℕ} {t : ℕ} {n : Cursor} {r : Result (ℕ × Cursor)} → r ≡ term_at many file c → r ≡ ok (t, n)
       → refs' ≡ references_pushed refs used (reference t group)
-      → Pushes file refs refs' (push_one many group refs used (fields_left file c)) used c (upto.At (used + 1) n)
+      → Pushes file refs refs' (push_one many group refs used (fields_left file c)) used c (ok (used + 1, n))
   unfolding push_one
   one_pushed {t = t} {n} a b e =
       let on = (term_next file c p.placed many t n (sym a ∙ b)).0 in
@@ -152,8 +149,8 @@ module _ {file refs : List ℕ} {used many : ℕ} {c : Cursor} (p : Pushable fil
       (record { further = omega (arith, on.further); stays = on.stays; placed = on.placed })
 
   -- a field that is refused
-  pub one_not : {x : Refusal} {r : NumberStep} → r ≡ term_at many file c → r ≡ numbered.Refused x
-      → Pushes file refs refs (push_one many group refs used (fields_left file c)) used c (upto.Refused x)
+  pub one_not : {x : Refusal} {r : Result (ℕ × Cursor)} → r ≡ term_at many file c → r ≡ refused x
+      → Pushes file refs refs (push_one many group refs used (fields_left file c)) used c (refused x)
   unfolding push_one
   one_not {x} a b = pushes_not (same_self 0 most_references refs) x (rw (term_not p.placed many a b))
 
@@ -168,19 +165,21 @@ one_end count group refs used fs e =
 -- ---- the turns of the loops
 
 module _ (count group : ℕ) (refs : List ℕ) (used : ℕ) (fs : List Field) where
+  -- all from the first on
+  pub many_first : (n : ℕ) → push_many count group n refs used fs ≡ push_many count group (n - 0) refs used fs
+  many_first n = let e : n - 0 ≡ n = omega arith in rw e
+
   -- one of many
-  pub many_on : (left : ℕ) → 0 < left
-      → push_many count group left refs used fs ≡ (push_one count group refs used fs >>= λ (refs₁, used₁, fs₁). push_many count group
-      (left - 1) refs₁ used₁ fs₁)
+  pub many_turn : (i n : ℕ) → i < n
+      → push_many count group (n - i) refs used fs ≡ (push_one count group refs used fs >>= λ (refs₁, used₁, fs₁). push_many count group
+      (n - (i + 1)) refs₁ used₁ fs₁)
   unfolding push_many
-  many_on zero h = absurd (not-suc-le-zero h)
-  many_on (suc n) h = let e : suc n - 1 ≡ n = omega arith in rw e
+  many_turn i n h = let e : n - i ≡ suc (n - (i + 1)) = omega arith in rw e
 
   -- none left
-  pub many_none : (left : ℕ) → left ≤ 0 → push_many count group left refs used fs ≡ ok (refs, used, fs)
+  pub many_over : (i n : ℕ) → n ≤ i → push_many count group (n - i) refs used fs ≡ ok (refs, used, fs)
   unfolding push_many
-  many_none zero h = refl
-  many_none (suc n) h = absurd (not-suc-le-zero h)
+  many_over i n h = let e : n - i ≡ 0 = omega arith in rw e
 
 module _ (count : ℕ) (refs : List ℕ) (used : ℕ) (fs : List Field) where
   -- all groups from the first on

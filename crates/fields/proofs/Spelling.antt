@@ -14,8 +14,7 @@ use Rattle.model.specs.Reading.{Result, ok, refused, ◌>>=◌, next, rest, name
 use Rattle.model.specs.declared.Refusal.{Refusal}
 use Rattle.model.proofs.ListLaws.{cond_false}
 use Rattle.text.specs.declared.Cursor.{Cursor}
-use Rattle.text.specs.declared.FieldStep.{FieldStep}
-use Rattle.text.specs.declared.FieldStep.TheVariants as field
+use Rattle.text.specs.declared.Part.{Part}
 use Rattle.text.specs.Parts.{Placed, fields_left, name_at, field_result}
 use Rattle.text.proofs.Laws.{Onward, name_law, left_none}
 use Rattle.names.specs.Table.{Table, table_names}
@@ -26,9 +25,6 @@ use Rattle.names.proofs.Excluded.{tells_same, tells_then, tells_new, tells_full}
 use Rattle.terms.proofs.Laws.{below}
 use Rattle.words.specs.Slices.{SameBut}
 use Rattle.words.proofs.Slices.{same_self, same_then}
-use Rattle.fields.specs.declared.Word.{Word}
-use Rattle.fields.specs.declared.Word.TheVariants as word
-use Rattle.fields.specs.declared.Upto.TheVariants as upto
 use Rattle.fields.specs.Spelling.{past_names, name_columns, Naming, in_table, past, Begun, table_there, none_left, Longer, SpelledAs, ReadsName, name_read, name_not, spell_fields, SpellsRest, all_spelt, rest_not}
 use Rattle.fields.proofs.Pushing.{left_cons}
 
@@ -151,15 +147,15 @@ module _ {file names names' : List ℕ} {named a e : ℕ} (t : Table file names 
 
 -- ---- a name field
 
-module _ {file : List ℕ} {c : Cursor} (p : Placed file c) {r : FieldStep} where
+module _ {file : List ℕ} {c : Cursor} (p : Placed file c) {r : Result Part} where
   -- the next field is a name
-  pub field_name : {a e : ℕ} {n : Cursor} → r ≡ name_at file c → r ≡ field.Part a e n
-      → next name_field (fields_left file c) ≡ ok (part file a e, fields_left file n)
+  pub field_name : {f : Part} → r ≡ name_at file c → r ≡ ok f
+      → next name_field (fields_left file c) ≡ ok (part file f.start f.end, fields_left file f.next)
   unfolding field_result
   field_name d k = sym (name_law file c p) ∙ ap (field_result file) (sym d ∙ k)
 
   -- it is refused
-  pub field_not : {x : Refusal} → r ≡ name_at file c → r ≡ field.Refused x → next name_field (fields_left file c) ≡ refused x
+  pub field_not : {x : Refusal} → r ≡ name_at file c → r ≡ refused x → next name_field (fields_left file c) ≡ refused x
   unfolding field_result
   field_not d k = sym (name_law file c p) ∙ ap (field_result file) (sym d ∙ k)
 
@@ -170,19 +166,19 @@ pub record NameRead (file names names' : List ℕ) (named named' n : ℕ) (c aft
   pub spelled : SpelledAs file names names' named named' n name
   pub onward : Onward file c after
 
-module _ {file names names' : List ℕ} {named : ℕ} {c : Cursor} {r : Word} (s : ReadsName file names names' named c r) where
+module _ {file names names' : List ℕ} {named : ℕ} {c : Cursor} {r : Result (ℕ × ℕ × Cursor)} (s : ReadsName file names names' named c r) where
   -- what was read, where it was not refused
-  pub reads_name : {n named' : ℕ} {after : Cursor} → r ≡ word.Name n named' after → NameRead file names names' named named' n c after
+  pub reads_name : {n named' : ℕ} {after : Cursor} → r ≡ ok (n, named', after) → NameRead file names names' named named' n c after
   reads_name {n} {named'} {after} p = go (rw p at s)
     where
-      go : ReadsName file names names' named c (word.Name n named' after) → NameRead file names names' named named' n c after
+      go : ReadsName file names names' named c (ok (n, named', after)) → NameRead file names names' named named' n c after
       go (name_read {name = m} d s o) = record { name = m; said = d; spelled = s; onward = o }
 
   -- and where it was
-  pub reads_not : {x : Refusal} → r ≡ word.Refused x → (next name_field (fields_left file c) ≡ refused x) × SameBut 0 name_columns names names'
+  pub reads_not : {x : Refusal} → r ≡ refused x → (next name_field (fields_left file c) ≡ refused x) × SameBut 0 name_columns names names'
   reads_not {x} p = go (rw p at s)
     where
-      go : ReadsName file names names' named c (word.Refused x)
+      go : ReadsName file names names' named c (refused x)
           → (next name_field (fields_left file c) ≡ refused x) × SameBut 0 name_columns names names'
       go (name_not d k) = (d, rw k (same_self 0 name_columns names))
 
@@ -235,10 +231,10 @@ on_first {file} {names} {named} t p = record {
   placed = p;
 }
 
-module _ {file names₀ names names' : List ℕ} {named₀ named : ℕ} {fs₀ : List Field} {c : Cursor} {r : Word}
+module _ {file names₀ names names' : List ℕ} {named₀ named : ℕ} {fs₀ : List Field} {c : Cursor} {r : Result (ℕ × ℕ × Cursor)}
     (s : SpellingOn file names₀ names named₀ named fs₀ c) (h : c.at ≤ c.end) (d : ReadsName file names names' named c r) where
   -- one name more
-  pub on_next : {n named' : ℕ} {after : Cursor} → r ≡ word.Name n named' after → SpellingOn file names₀ names' named₀ named' fs₀ after
+  pub on_next : {n named' : ℕ} {after : Cursor} → r ≡ ok (n, named', after) → SpellingOn file names₀ names' named₀ named' fs₀ after
   on_next e =
       let read = reads_name d e in
       record {
@@ -251,7 +247,7 @@ module _ {file names₀ names names' : List ℕ} {named₀ named : ℕ} {fs₀ :
       }
 
   -- a field that is refused
-  pub on_not : {x : Refusal} → r ≡ word.Refused x → SpellsRest file names₀ names' named₀ fs₀ (upto.Refused x)
+  pub on_not : {x : Refusal} → r ≡ refused x → SpellsRest file names₀ names' named₀ fs₀ (refused x)
   on_not {x} e =
       let (k, q) = reads_not d e in
       rest_not {x = x} (s.run ∙ rw (spell_next s.ns file c h, k)) (same_then s.longer.kept q)
@@ -259,7 +255,7 @@ module _ {file names₀ names names' : List ℕ} {named₀ named : ℕ} {fs₀ :
 -- after the last
 pub on_last : {file names₀ names : List ℕ} {named₀ named : ℕ} {fs₀ : List Field} {c : Cursor} → SpellingOn file names₀ names named₀ named fs₀ c
     → c.end < c.at
-    → SpellsRest file names₀ names named₀ fs₀ (upto.At named c)
+    → SpellsRest file names₀ names named₀ fs₀ (ok (named, c))
 on_last {file} {c = c} s h = all_spelt {ns = s.ns} {after = c} (s.run ∙ spell_none s.ns file c h) s.naming s.longer
 
 -- the names that the fields are, spelled

@@ -6,8 +6,6 @@ use Rattle.text.specs.declared.Cursor.{Cursor}
 use Rattle.text.specs.Parts.{Placed, fields_left}
 use Rattle.additions.specs.Additions.{references_pushed}
 use Rattle.words.specs.Slices.{SameBut}
-use Rattle.fields.specs.declared.Upto.{Upto}
-use Rattle.fields.specs.declared.Upto.TheVariants as upto
 
 -- the largest number that a field may be
 abbrev pub most_number : ℕ
@@ -51,9 +49,9 @@ push_all refs used [] = refs
 push_all refs used (w ∷ ws) = push_all (references_pushed refs used w) (used + 1) ws
 
 -- an answer as a run
-unfoldable pub upto_result : List ℕ → List ℕ → Upto → ReferencesRead
-upto_result file refs (upto.At end next) = ok (refs, end, fields_left file next)
-upto_result file refs (upto.Refused r) = refused r
+unfoldable pub upto_result : List ℕ → List ℕ → Result (ℕ × Cursor) → ReferencesRead
+upto_result file refs (ok (end, next)) = ok (refs, end, fields_left file next)
+upto_result file refs (refused r) = refused r
 
 -- a cursor that stands further on, by a byte or more for each reference
 pub record Ahead (file : List ℕ) (from : ℕ) (c : Cursor) (end : ℕ) (next : Cursor) : Type 0 where
@@ -62,9 +60,9 @@ pub record Ahead (file : List ℕ) (from : ℕ) (c : Cursor) (end : ℕ) (next :
   pub placed : Placed file next
 
 -- what pushing comes to; whatever the answer, words past the limit of references stay
-pub record Pushes (file refs refs' : List ℕ) (run : ReferencesRead) (from : ℕ) (c : Cursor) (r : Upto) : Type 0 where
+pub record Pushes (file refs refs' : List ℕ) (run : ReferencesRead) (from : ℕ) (c : Cursor) (r : Result (ℕ × Cursor)) : Type 0 where
   pub answer : upto_result file refs' r ≡ run
-  pub ahead : (end : ℕ) (next : Cursor) → r ≡ upto.At end next → Ahead file from c end next
+  pub ahead : (end : ℕ) (next : Cursor) → r ≡ ok (end, next) → Ahead file from c end next
   pub kept : SameBut 0 most_references refs refs'
 
 -- what pushing asks: room for the references, and a cursor in a line of the file; past their limit there is at most one for

@@ -11,10 +11,6 @@ use Rattle.text.proofs.Laws.{Onward}
 use Rattle.names.specs.Table.{Table, Tells, name_of, table_names}
 use Rattle.words.specs.Slices.{SameBut}
 use Rattle.fields.specs.declared.Spelt.{Spelt}
-use Rattle.fields.specs.declared.Word.{Word}
-use Rattle.fields.specs.declared.Word.TheVariants as word
-use Rattle.fields.specs.declared.Upto.{Upto}
-use Rattle.fields.specs.declared.Upto.TheVariants as upto
 
 -- the count of names once a name has no room
 abbrev pub past_names : ℕ
@@ -54,14 +50,14 @@ abbrev pub Spells : List ℕ → List ℕ → List ℕ → ℕ → ℕ → ℕ �
 Spells file names names' named a e r = SpelledAs file names names' named r.named r.number (part file a e)
 
 -- what reading a name comes to
-pub data ReadsName (file names names' : List ℕ) (named : ℕ) (c : Cursor) : Word → Type 0 where
+pub data ReadsName (file names names' : List ℕ) (named : ℕ) (c : Cursor) : Result (ℕ × ℕ × Cursor) → Type 0 where
   name_read : {n named' : ℕ} {after : Cursor} {name : Name}
       → next name_field (fields_left file c) ≡ ok (name, fields_left file after)
       → SpelledAs file names names' named named' n name → Onward file c after
-      → ReadsName file names names' named c (word.Name n named' after)
+      → ReadsName file names names' named c (ok (n, named', after))
   name_not : {x : Refusal}
       → next name_field (fields_left file c) ≡ refused x → names' ≡ names
-      → ReadsName file names names' named c (word.Refused x)
+      → ReadsName file names names' named c (refused x)
 
 -- the names with those that the fields are
 unfoldable pub spell_fields : List Name → List Field → Result (List Name)
@@ -69,11 +65,11 @@ spell_fields ns [] = ok ns
 spell_fields ns (f ∷ fs) = name_field f >>= λ m. spell_fields (spell ns m) fs
 
 -- what spelling all fields that are left comes to
-pub data SpellsRest (file names names' : List ℕ) (named : ℕ) (fs : List Field) : Upto → Type 0 where
+pub data SpellsRest (file names names' : List ℕ) (named : ℕ) (fs : List Field) : Result (ℕ × Cursor) → Type 0 where
   all_spelt : {ns : List Name} {named' : ℕ} {after : Cursor}
       → spell_fields (table_names file names named) fs ≡ ok ns
       → Naming file names' named' ns → Longer file names names' named named'
-      → SpellsRest file names names' named fs (upto.At named' after)
+      → SpellsRest file names names' named fs (ok (named', after))
   rest_not : {x : Refusal}
       → spell_fields (table_names file names named) fs ≡ refused x → SameBut 0 name_columns names names'
-      → SpellsRest file names names' named fs (upto.Refused x)
+      → SpellsRest file names names' named fs (refused x)

@@ -1,7 +1,6 @@
 -- What a field says as a word: the kind of a line, and the word of an `op`.
-use Rattle.std.specs.Prelude.{ℕ, ◌+◌, ◌*◌, ◌≡◌, Bool, true, false, cond, not, ◌&&◌, List, [], ◌∷◌, length, leb, ltb, eqb}
+use Rattle.std.specs.Prelude.{ℕ, ◌+◌, ◌*◌, ◌≡◌, Bool, true, false, cond, not, ◌&&◌, List, [], ◌∷◌, length, leb, ltb, eqb, Option, None as none, Some as some}
 use Prim.Native.String.{String}
-use Rattle.std.proofs.Math.Option.{Option, none, some}
 use Rattle.model.specs.Lists.{all, is_nil, holds}
 use Rattle.model.specs.Names.{bytes, same}
 use Rattle.model.specs.Lines.{Field}
@@ -13,8 +12,6 @@ use Rattle.model.specs.declared.Op.{Op}
 use Rattle.model.specs.declared.Refusal.{Refusal}
 use Rattle.model.specs.declared.Refusal.TheVariants as refusal
 use Rattle.text.specs.declared.Cursor.{Cursor}
-use Rattle.text.specs.declared.NumberStep.{NumberStep}
-use Rattle.text.specs.declared.NumberStep.TheVariants as numbered
 use Rattle.text.specs.Parts.{fields_left, number_at}
 use Rattle.text.proofs.Laws.{Onward}
 use Rattle.fields.specs.declared.TermKind.{TermKind}
@@ -23,10 +20,6 @@ use Rattle.fields.specs.declared.RecordKind.{RecordKind}
 use Rattle.fields.specs.declared.RecordKind.TheVariants as recorded
 use Rattle.fields.specs.declared.Kind.{Kind}
 use Rattle.fields.specs.declared.Kind.TheVariants as kinded
-use Rattle.fields.specs.declared.OpWord.{OpWord}
-use Rattle.fields.specs.declared.OpWord.TheVariants as is_op
-use Rattle.fields.specs.declared.OpStep.{OpStep}
-use Rattle.fields.specs.declared.OpStep.TheVariants as worded
 
 -- bytes as one number, to the base 256, after the number n
 unfoldable pub key_from : ℕ → List ℕ → ℕ
@@ -82,32 +75,26 @@ unfoldable pub ask_line_kind : Bool → LineKind
 ask_line_kind true = kind.Ask2
 ask_line_kind false = kind.Ask
 
--- the kind of a line, or its refusal
-unfoldable pub kind_result : Kind → Result LineKind
-kind_result (kinded.Ask grouped) = ok (ask_line_kind grouped)
-kind_result kinded.Also = ok kind.Also
-kind_result kinded.Hide = ok kind.Hide
-kind_result (kinded.Term t) = ok (term_kind t)
-kind_result (kinded.Record r) = ok (record_line_kind r)
-kind_result (kinded.No x) = refused x
+-- the kind of a line, as `model` has it
+unfoldable pub known_kind : Kind → LineKind
+known_kind (kinded.Ask grouped) = ask_line_kind grouped
+known_kind kinded.Also = kind.Also
+known_kind kinded.Hide = kind.Hide
+known_kind (kinded.Term t) = term_kind t
+known_kind (kinded.Record r) = record_line_kind r
 
--- whether a line of the kind may stand next; what has no kind is refused for that
+-- the kind of a line, or its refusal
+unfoldable pub kind_result : Result Kind → Result LineKind
+kind_result (ok k) = ok (known_kind k)
+kind_result (refused x) = refused x
+
+-- whether a line of the kind may stand next
 unfoldable pub stands : State → Kind → Bool
-stands s (kinded.Ask grouped) = may_stand s (place (ask_line_kind grouped))
-stands s kinded.Also = may_stand s (place kind.Also)
-stands s kinded.Hide = may_stand s (place kind.Hide)
-stands s (kinded.Term t) = may_stand s (place (term_kind t))
-stands s (kinded.Record r) = may_stand s (place (record_line_kind r))
-stands s (kinded.No x) = true
+stands s k = may_stand s (place (known_kind k))
 
 -- whether a line of the kind is a position more than a file may have
 unfoldable pub over : State → Kind → Bool
-over s (kinded.Ask grouped) = is_position (place (ask_line_kind grouped)) && leb most_asks (length s.asks)
-over s kinded.Also = is_position (place kind.Also) && leb most_asks (length s.asks)
-over s kinded.Hide = is_position (place kind.Hide) && leb most_asks (length s.asks)
-over s (kinded.Term t) = is_position (place (term_kind t)) && leb most_asks (length s.asks)
-over s (kinded.Record r) = is_position (place (record_line_kind r)) && leb most_asks (length s.asks)
-over s (kinded.No x) = false
+over s k = is_position (place (known_kind k)) && leb most_asks (length s.asks)
 
 -- the counts say what of a state decides where a line may stand and how many fields it has
 pub record Placing (s : State) (k : Counts) : Type 0 where
@@ -120,39 +107,24 @@ pub record Placing (s : State) (k : Counts) : Type 0 where
 
 -- the fields of the next line, the kind counted, where their count is fixed
 unfoldable pub fixed_of : State → Kind → Option ℕ
-fixed_of s (kinded.Ask grouped) = fixed_count s (ask_line_kind grouped)
-fixed_of s kinded.Also = fixed_count s kind.Also
-fixed_of s kinded.Hide = fixed_count s kind.Hide
-fixed_of s (kinded.Term t) = fixed_count s (term_kind t)
-fixed_of s (kinded.Record r) = fixed_count s (record_line_kind r)
-fixed_of s (kinded.No x) = none
-
--- a count, or 0 where there is none
-unfoldable pub count_of : Option ℕ → ℕ
-count_of none = 0
-count_of (some n) = n
+fixed_of s k = fixed_count s (known_kind k)
 
 -- whether a line has as many fields as its kind asks for
 unfoldable pub well_counted : State → Kind → List Field → Bool
 well_counted s k fs = not (holds (λ n. not (eqb (length fs) n)) (fixed_of s k))
-
--- an op word as an answer
-unfoldable pub as_op : Option Op → OpWord
-as_op none = is_op.No
-as_op (some op) = is_op.Is op
 
 -- a field that is an op word: 1
 unfoldable pub op_field : Field → Result Op
 op_field f = need refusal.Form (word op_words f)
 
 -- what reading an op word comes to
-pub data ReadsOp (file : List ℕ) (c : Cursor) : OpStep → Type 0 where
+pub data ReadsOp (file : List ℕ) (c : Cursor) : Result (Op × Cursor) → Type 0 where
   op_read : {w : Op} {after : Cursor}
       → next op_field (fields_left file c) ≡ ok (w, fields_left file after) → Onward file c after
-      → ReadsOp file c (worded.Is w after)
-  op_not : {x : Refusal} → next op_field (fields_left file c) ≡ refused x → ReadsOp file c (worded.Refused x)
+      → ReadsOp file c (ok (w, after))
+  op_not : {x : Refusal} → next op_field (fields_left file c) ≡ refused x → ReadsOp file c (refused x)
 
 -- the number at a cursor where the form of the file has the field, else a number that stands for it
-unfoldable pub number_or : Bool → ℕ → ℕ → List ℕ → Cursor → NumberStep
+unfoldable pub number_or : Bool → ℕ → ℕ → List ℕ → Cursor → Result (ℕ × Cursor)
 number_or true limit other file c = number_at limit file c
-number_or false limit other file c = numbered.Number other c
+number_or false limit other file c = ok (other, c)

@@ -7,13 +7,13 @@ ghost use Rattle.model.specs.Reading.{need, word, op_words, kinds, State, an_ask
 ghost use Rattle.model.specs.declared.Refusal.TheVariants as refusal;
 ghost use Rattle.text.specs.Parts.{Placed, fields_left};
 ghost use Rattle.names.specs.Table.{Table};
-ghost use Rattle.fields.specs.Wording.{Keyed, look, kind_result, stands, over, Placing, count_of, fixed_of, well_counted, as_op, ReadsOp, number_or};
+ghost use Rattle.fields.specs.Wording.{Keyed, look, kind_result, stands, over, Placing, fixed_of, well_counted, ReadsOp, number_or};
 ghost use Rattle.fields.specs.Pushing.{most_number, push_one, push_many, push_rest, push_groups, Pushable, Pushes};
 ghost use Rattle.fields.specs.Spelling.{Begun, Spells, ReadsName, SpellsRest};
 
 use model::{Counts, Op, Refusal};
 use names::Spelled;
-use text::{Cursor, FieldStep, NumberStep};
+use text::Cursor;
 
 // The kinds of term lines.
 #[derive(Clone, Copy)]
@@ -38,7 +38,7 @@ pub enum RecordKind {
     Root,
 }
 
-// The kind of a line, of an ask whether it has groups; or the refusal of a line that has none.
+// The kind of a line, of an ask whether it has groups.
 #[derive(Clone, Copy)]
 pub enum Kind {
     Ask(bool),
@@ -46,17 +46,10 @@ pub enum Kind {
     Hide,
     Term(TermKind),
     Record(RecordKind),
-    No(Refusal),
 }
 
-// An op word, or that there is none.
-#[derive(Clone, Copy)]
-enum OpWord {
-    Is(Op),
-    No,
-}
-
-// The keys of the kinds and of the op words: a 1, then the bytes of the word.
+// The keys of the kinds and of the op words: a 1, then the bytes of the word. One comparison of numbers tells a word from the
+// others, where a match on slices compares them byte by byte, one word after the other.
 const ASK: u64 = 0x1_61_73_6b;
 
 const ASK2: u64 = 0x1_61_73_6b_32;
@@ -113,195 +106,163 @@ fn word_key(file: &[u8], a: usize, e: usize) -> u64
         return 0;
     }
     let mut key: u64 = 1;
-    let mut i = a;
-    while i < e {
+    for i in a..e {
         key = key * 256 + file[i] as u64;
-        i += 1;
     }
     key
 }
 
 // The kind whose word has a key.
-fn kind_of(key: u64) -> Kind
+#[tactic(auto, unfolding(crate::specs::Wording::kind_result, crate::specs::Wording::known_kind, crate::specs::Wording::ask_line_kind, crate::specs::Wording::term_kind, crate::specs::Wording::record_line_kind, crate::specs::Wording::look, crate::specs::Wording::key_of, crate::specs::Wording::key_from, model::specs::Reading::need, model::specs::Reading::kinds, model::specs::Names::bytes))]
+fn kind_of(key: u64) -> Result<Kind, Refusal>
     ensures { kind_result result ≡ need refusal.Form (look kinds key) }
 {
     match key {
-        ASK => Kind::Ask(false),
-        ASK2 => Kind::Ask(true),
-        ALSO => Kind::Also,
-        HIDE => Kind::Hide,
-        FREE => Kind::Term(TermKind::Free),
-        LEAF => Kind::Term(TermKind::Leaf),
-        CALL => Kind::Term(TermKind::Call),
-        OP => Kind::Term(TermKind::Op),
-        ALL => Kind::Term(TermKind::All),
-        SOME => Kind::Term(TermKind::Some),
-        LET => Kind::Term(TermKind::Let),
-        LABEL => Kind::Term(TermKind::Label),
-        ASSUME => Kind::Record(RecordKind::Assume),
-        FUN => Kind::Record(RecordKind::Fun),
-        DEF => Kind::Record(RecordKind::Def),
-        RETAIN => Kind::Record(RecordKind::Retain),
-        ROOT => Kind::Record(RecordKind::Root),
-        _ => Kind::No(Refusal::Form),
+        ASK => Ok(Kind::Ask(false)),
+        ASK2 => Ok(Kind::Ask(true)),
+        ALSO => Ok(Kind::Also),
+        HIDE => Ok(Kind::Hide),
+        FREE => Ok(Kind::Term(TermKind::Free)),
+        LEAF => Ok(Kind::Term(TermKind::Leaf)),
+        CALL => Ok(Kind::Term(TermKind::Call)),
+        OP => Ok(Kind::Term(TermKind::Op)),
+        ALL => Ok(Kind::Term(TermKind::All)),
+        SOME => Ok(Kind::Term(TermKind::Some)),
+        LET => Ok(Kind::Term(TermKind::Let)),
+        LABEL => Ok(Kind::Term(TermKind::Label)),
+        ASSUME => Ok(Kind::Record(RecordKind::Assume)),
+        FUN => Ok(Kind::Record(RecordKind::Fun)),
+        DEF => Ok(Kind::Record(RecordKind::Def)),
+        RETAIN => Ok(Kind::Record(RecordKind::Retain)),
+        ROOT => Ok(Kind::Record(RecordKind::Root)),
+        _ => Err(Refusal::Form),
     }
 }
 
 // Whether the lines counted are ask, also and hide lines alone.
+#[tactic(auto, using(crate::proofs::Words::head_past, crate::proofs::Words::head_there))]
 fn in_head(k: Counts) -> bool
     ensures { (s : State) → Placing s k → result ≡ in_head s }
 {
-    if k.terms != 0 {
-        return false;
-    }
-    k.records == k.hides
+    k.terms == 0 && k.records == k.hides
 }
 
 // Whether the lines counted are ask and also lines alone.
+#[tactic(auto, using(crate::proofs::Words::asks_past, crate::proofs::Words::asks_there))]
 fn in_asks(k: Counts) -> bool
     ensures { (s : State) → Placing s k → result ≡ in_asks s }
 {
-    if k.hides != 0 {
-        return false;
-    }
-    in_head(k)
+    in_head(k) && k.hides == 0
 }
 
 // Whether an ask line, with groups or without, may stand after the lines counted: those are asks of its form and also lines.
+#[tactic(auto, using(crate::proofs::Words::ask_first, crate::proofs::Words::ask_alike, crate::proofs::Words::ask_not))]
 fn ask_stands(k: Counts, grouped: bool) -> bool
     ensures { (s : State) → Placing s k → result ≡ may_stand s (an_ask grouped) }
 {
-    if !in_asks(k) {
-        return false;
-    }
-    if k.asks == 0 {
-        return true;
-    }
-    if k.grouped {
-        return grouped;
-    }
-    !grouped
+    in_asks(k) && (k.asks == 0 || grouped == k.grouped)
 }
 
-// Whether a line of a kind may stand after the lines counted: an ask first, then asks of its form and also lines; then hide lines;
-// then any other. What has no kind is refused for that.
+// Whether a line of a kind may stand after the lines counted: an ask first, then asks of its form and also lines; then hide
+// lines; then any other.
 fn may_stand(k: Counts, kind: Kind) -> bool
     ensures { (s : State) → Placing s k → result ≡ stands s kind }
 {
     match kind {
         Kind::Ask(grouped) => ask_stands(k, grouped),
-        Kind::Also => {
-            if in_asks(k) {
-                return k.asks != 0;
-            }
-            false
-        }
-        Kind::Hide => {
-            if k.asks == 0 {
-                return false;
-            }
-            in_head(k)
-        }
-        Kind::Term(_) => k.asks != 0,
-        Kind::Record(_) => k.asks != 0,
-        Kind::No(_) => true,
+        Kind::Also => in_asks(k) && k.asks != 0,
+        Kind::Hide => in_head(k) && k.asks != 0,
+        Kind::Term(_) | Kind::Record(_) => k.asks != 0,
     }
 }
 
 // Whether a line of a kind is an ask or also line and as many as may be are counted.
+#[tactic(auto, using(crate::proofs::Words::over_position, crate::proofs::Words::over_other))]
 fn too_many(k: Counts, kind: Kind) -> bool
     ensures { (s : State) → Placing s k → result ≡ over s kind }
 {
     match kind {
-        Kind::Ask(_) => model::MOST_ASKS <= k.asks,
-        Kind::Also => model::MOST_ASKS <= k.asks,
-        Kind::Hide => false,
-        Kind::Term(_) => false,
-        Kind::Record(_) => false,
-        Kind::No(_) => false,
+        Kind::Ask(_) | Kind::Also => model::MOST_ASKS <= k.asks,
+        Kind::Hide | Kind::Term(_) | Kind::Record(_) => false,
     }
 }
 
-// The kind of the line after those counted, whose first field stands from `a` up to `e`; 1 where it may not stand there, then 13.
-pub fn line_kind(file: &[u8], k: Counts, a: usize, e: usize) -> Kind
+// The kind of the line after those counted, whose first field stands from `a` up to `e`; 1 where it may not stand there, then
+// 13.
+pub fn line_kind(file: &[u8], k: Counts, a: usize, e: usize) -> Result<Kind, Refusal>
     requires { (a ≤ e) × (e ≤ length file.now) }
     ensures { (s : State) → Placing s k → kind_result result ≡ kind_field s (part file.now a e) }
 {
-    let kind = kind_of(word_key(file, a, e));
-    if may_stand(k, kind) {
-        if too_many(k, kind) {
-            return Kind::No(Refusal::FullAsks);
-        }
-        return kind;
+    let kind = kind_of(word_key(file, a, e))?;
+    if !may_stand(k, kind) {
+        return Err(Refusal::Form);
     }
-    Kind::No(Refusal::Form)
+    if too_many(k, kind) {
+        return Err(Refusal::FullAsks);
+    }
+    Ok(kind)
+}
+
+// The op word that has a key.
+#[tactic(auto, unfolding(crate::specs::Wording::look, crate::specs::Wording::key_of, crate::specs::Wording::key_from, model::specs::Reading::op_words, model::specs::Names::bytes))]
+fn op_of(key: u64) -> Option<Op>
+    ensures { result ≡ look op_words key }
+{
+    match key {
+        TRUE => Some(Op::TrueOp),
+        IFF => Some(Op::Iff),
+        EQ => Some(Op::Eq),
+        AND => Some(Op::And),
+        OTHER => Some(Op::Other),
+        _ => None,
+    }
 }
 
 // The op word that stands from `a` up to `e`.
-fn op_word(file: &[u8], a: usize, e: usize) -> OpWord
+#[tactic(auto, using(crate::proofs::Words::op_key))]
+fn op_word(file: &[u8], a: usize, e: usize) -> Option<Op>
     requires { (a ≤ e) × (e ≤ length file.now) }
-    ensures { result ≡ as_op (word op_words (part file.now a e)) }
+    ensures { result ≡ word op_words (part file.now a e) }
 {
-    match word_key(file, a, e) {
-        TRUE => OpWord::Is(Op::TrueOp),
-        IFF => OpWord::Is(Op::Iff),
-        EQ => OpWord::Is(Op::Eq),
-        AND => OpWord::Is(Op::And),
-        OTHER => OpWord::Is(Op::Other),
-        _ => OpWord::No,
-    }
+    op_of(word_key(file, a, e))
 }
 
-// How many fields a term line of a kind has, the kind counted; 0 where that is not fixed.
-fn term_count(kind: TermKind) -> usize
-    ensures { (s : State) → result ≡ count_of (fixed_of s (Kind.Term kind)) }
+// How many fields a term line of a kind has, the kind counted, where that is fixed.
+#[tactic(auto, unfolding(crate::specs::Wording::fixed_of, crate::specs::Wording::known_kind, crate::specs::Wording::term_kind, model::specs::Reading::fixed_count))]
+fn term_count(kind: TermKind) -> Option<usize>
+    ensures { (s : State) → result ≡ fixed_of s (Kind.Term kind) }
 {
     match kind {
-        TermKind::Free => 2,
-        TermKind::Leaf => 1,
-        TermKind::Call => 0,
-        TermKind::Op => 0,
-        TermKind::All => 0,
-        TermKind::Some => 0,
-        TermKind::Let => 0,
-        TermKind::Label => 2,
+        TermKind::Leaf => Some(1),
+        TermKind::Free | TermKind::Label => Some(2),
+        TermKind::Call | TermKind::Op | TermKind::All | TermKind::Some | TermKind::Let => None,
     }
 }
 
 // The same of a record line.
-fn record_count(k: Counts, kind: RecordKind) -> usize
-    ensures { (s : State) → Placing s k → result ≡ count_of (fixed_of s (Kind.Record kind)) }
+#[tactic(auto, using(crate::proofs::Words::assume_count), unfolding(crate::specs::Wording::fixed_of, crate::specs::Wording::known_kind, crate::specs::Wording::record_line_kind, model::specs::Reading::fixed_count))]
+fn record_count(k: Counts, kind: RecordKind) -> Option<usize>
+    ensures { (s : State) → Placing s k → result ≡ fixed_of s (Kind.Record kind) }
 {
     match kind {
-        RecordKind::Assume => {
-            if k.grouped {
-                return 5;
-            }
-            4
-        }
-        RecordKind::Fun => 2,
-        RecordKind::Def => 3,
-        RecordKind::Retain => 0,
-        RecordKind::Root => 4,
+        RecordKind::Assume => Some(if k.grouped { 5 } else { 4 }),
+        RecordKind::Fun => Some(2),
+        RecordKind::Def => Some(3),
+        RecordKind::Retain => None,
+        RecordKind::Root => Some(4),
     }
 }
 
 // The same of any line.
-fn fixed_count(k: Counts, kind: Kind) -> usize
-    ensures { (s : State) → Placing s k → result ≡ count_of (fixed_of s kind) }
+#[tactic(auto, unfolding(crate::specs::Wording::fixed_of, crate::specs::Wording::known_kind, crate::specs::Wording::ask_line_kind, model::specs::Reading::fixed_count))]
+fn fixed_count(k: Counts, kind: Kind) -> Option<usize>
+    ensures { (s : State) → Placing s k → result ≡ fixed_of s kind }
 {
     match kind {
-        Kind::Ask(grouped) => {
-            if grouped {
-                return 4;
-            }
-            3
-        }
-        Kind::Also => 2,
-        Kind::Hide => 2,
+        Kind::Ask(grouped) => Some(if grouped { 4 } else { 3 }),
+        Kind::Also | Kind::Hide => Some(2),
         Kind::Term(t) => term_count(t),
         Kind::Record(r) => record_count(k, r),
-        Kind::No(_) => 0,
     }
 }
 
@@ -310,24 +271,18 @@ pub fn counted(file: &[u8], k: Counts, kind: Kind, a: usize, e: usize) -> bool
     requires { (a ≤ e) × (e ≤ length file.now) × (length file.now ≤ 65535) }
     ensures { (s : State) → Placing s k → result ≡ well_counted s kind (fields (part file.now a e)) }
 {
-    let fixed = fixed_count(k, kind);
-    if fixed == 0 {
-        return true;
+    match fixed_count(k, kind) {
+        Some(fixed) => text::count_fields(file, a, e) == fixed,
+        None => true,
     }
-    text::count_fields(file, a, e) == fixed
 }
 
-// The count of names once a name has no room.
+// The count of names once a name has no room; a number and no Option, since limit 6 is judged on the count in `Counts`, after
+// 5.
 const PAST_NAMES: usize = 2049;
 
-// Where what was read ends: the references pushed, or the names; and the cursor after the fields. Or the refusal of a field.
-#[derive(Clone, Copy)]
-pub enum Upto {
-    At(usize, Cursor),
-    Refused(Refusal),
-}
-
-// Pushes the term that the next field is, in a group. Past their limit references are counted and not written.
+// Pushes the term that the next field is, in a group. Past their limit references are counted and not written. The slices that
+// C lends stay parameters of their own: held in one struct, each function would have a clause for each that it leaves.
 pub fn push_term(
     file: &[u8],
     refs: &mut [u32],
@@ -335,40 +290,35 @@ pub fn push_term(
     many: usize,
     group: usize,
     c: Cursor,
-) -> Upto
+) -> Result<(usize, Cursor), Refusal>
     requires { Pushable file.now refs.old used many c × (group ≤ most_number) }
     ensures { Pushes file.now refs.old refs.new
         (push_one many group refs.old used (fields_left file.now c)) used c result }
 {
-    match c.term(file, many as u32) {
-        NumberStep::Number(t, next) => {
-            additions::push(refs, used, t as usize, group);
-            Upto::At(used + 1, next)
-        }
-        NumberStep::Refused(r) => Upto::Refused(r),
-    }
+    let (t, next) = c.term(file, many as u32)?;
+    let _ = additions::push(refs, used, t as usize, group);
+    Ok((used + 1, next))
 }
 
 // Pushes the terms that the fields left are.
-pub fn push_rest(file: &[u8], refs: &mut [u32], from: usize, many: usize, at: Cursor) -> Upto
+pub fn push_rest(
+    file: &[u8],
+    refs: &mut [u32],
+    from: usize,
+    many: usize,
+    at: Cursor,
+) -> Result<(usize, Cursor), Refusal>
     requires { Pushable file.now refs.old from many at }
     ensures { Pushes file.now refs.old refs.new
         (push_rest many refs.old from (fields_left file.now at)) from at result }
 {
     let mut used = from;
     let mut c = at;
+    // How many fields are left is known once the last is read, so no range counts the turns.
     while c.at <= c.end {
-        match push_term(file, refs, used, many, 0, c) {
-            Upto::At(more, next) => {
-                used = more;
-                c = next;
-            }
-            Upto::Refused(r) => {
-                return Upto::Refused(r);
-            }
-        }
+        (used, c) = push_term(file, refs, used, many, 0, c)?;
     }
-    Upto::At(used, c)
+    Ok((used, c))
 }
 
 // Pushes the next `n` terms, in a group.
@@ -380,27 +330,17 @@ fn push_many(
     group: usize,
     n: usize,
     at: Cursor,
-) -> Upto
+) -> Result<(usize, Cursor), Refusal>
     requires { Pushable file.now refs.old from many at × (group ≤ most_number) }
     ensures { Pushes file.now refs.old refs.new
         (push_many many group n refs.old from (fields_left file.now at)) from at result }
 {
     let mut used = from;
     let mut c = at;
-    let mut left = n;
-    while 0 < left {
-        match push_term(file, refs, used, many, group, c) {
-            Upto::At(more, next) => {
-                used = more;
-                c = next;
-            }
-            Upto::Refused(r) => {
-                return Upto::Refused(r);
-            }
-        }
-        left -= 1;
+    for _ in 0..n {
+        (used, c) = push_term(file, refs, used, many, group, c)?;
     }
-    Upto::At(used, c)
+    Ok((used, c))
 }
 
 // Pushes the terms of the next groups, each a count and that many terms.
@@ -411,34 +351,18 @@ pub fn push_groups(
     many: usize,
     groups: usize,
     at: Cursor,
-) -> Upto
+) -> Result<(usize, Cursor), Refusal>
     requires { Pushable file.now refs.old from many at × (groups ≤ most_number) }
     ensures { Pushes file.now refs.old refs.new
         (push_groups many 0 groups refs.old from (fields_left file.now at)) from at result }
 {
     let mut used = from;
     let mut c = at;
-    let mut g = 0;
-    while g < groups {
-        match c.number(file, text::MOST_NUMBER) {
-            NumberStep::Number(n, next) => {
-                match push_many(file, refs, used, many, g, n as usize, next) {
-                    Upto::At(more, after) => {
-                        used = more;
-                        c = after;
-                    }
-                    Upto::Refused(r) => {
-                        return Upto::Refused(r);
-                    }
-                }
-            }
-            NumberStep::Refused(r) => {
-                return Upto::Refused(r);
-            }
-        }
-        g += 1;
+    for g in 0..groups {
+        let (n, next) = c.number(file, text::MOST_NUMBER)?;
+        (used, c) = push_many(file, refs, used, many, g, n as usize, next)?;
     }
-    Upto::At(used, c)
+    Ok((used, c))
 }
 
 // A name's number, and how many names there are then: once a name had no room, past their limit, and the number says nothing.
@@ -446,13 +370,6 @@ pub fn push_groups(
 struct Spelt {
     pub number: usize,
     pub named: usize,
-}
-
-// The number of a name, how many names there are then, and the cursor after its field; or the refusal of the field.
-#[derive(Clone, Copy)]
-pub enum Word {
-    Name(usize, usize, Cursor),
-    Refused(Refusal),
 }
 
 // Spells the name from `a` up to `e`, unless a name had no room before.
@@ -477,69 +394,66 @@ fn spell_name(file: &[u8], names: &mut [u32], named: usize, a: usize, e: usize) 
 }
 
 // Spells the name that the next field is.
-pub fn read_name(file: &[u8], names: &mut [u32], named: usize, c: Cursor) -> Word
+pub fn read_name(
+    file: &[u8],
+    names: &mut [u32],
+    named: usize,
+    c: Cursor,
+) -> Result<(usize, usize, Cursor), Refusal>
     requires { Begun file.now names.old named × Placed file.now c }
     ensures { ReadsName file.now names.old names.new named c result }
 {
-    match c.name(file) {
-        FieldStep::Part { start, end, next } => {
-            let w = spell_name(file, names, named, start, end);
-            Word::Name(w.number, w.named, next)
-        }
-        FieldStep::Refused(r) => Word::Refused(r),
-    }
+    let part = c.name(file)?;
+    let w = spell_name(file, names, named, part.start, part.end);
+    Ok((w.number, w.named, part.next))
 }
 
 // Spells the names that the fields left are.
-pub fn spell_rest(file: &[u8], names: &mut [u32], from: usize, at: Cursor) -> Upto
+pub fn spell_rest(
+    file: &[u8],
+    names: &mut [u32],
+    from: usize,
+    at: Cursor,
+) -> Result<(usize, Cursor), Refusal>
     requires { Table file.now names.old from × Placed file.now at }
     ensures { SpellsRest file.now names.old names.new from
         (fields_left file.now at) result }
 {
     let mut named = from;
     let mut c = at;
+    // How many fields are left is known once the last is read, so no range counts the turns.
     while c.at <= c.end {
-        match read_name(file, names, named, c) {
-            Word::Name(_, more, next) => {
-                named = more;
-                c = next;
-            }
-            Word::Refused(r) => {
-                return Upto::Refused(r);
-            }
-        }
+        let (_, more, next) = read_name(file, names, named, c)?;
+        named = more;
+        c = next;
     }
-    Upto::At(named, c)
-}
-
-// An op word and the cursor after its field; or the refusal of the field.
-#[derive(Clone, Copy)]
-pub enum OpStep {
-    Is(Op, Cursor),
-    Refused(Refusal),
+    Ok((named, c))
 }
 
 // The op word that the next field is.
-pub fn read_op_word(file: &[u8], c: Cursor) -> OpStep
+pub fn read_op_word(file: &[u8], c: Cursor) -> Result<(Op, Cursor), Refusal>
     requires { Placed file.now c }
     ensures { ReadsOp file.now c result }
 {
-    match c.field(file) {
-        FieldStep::Part { start, end, next } => match op_word(file, start, end) {
-            OpWord::Is(op) => OpStep::Is(op, next),
-            OpWord::No => OpStep::Refused(Refusal::Form),
-        },
-        FieldStep::Refused(r) => OpStep::Refused(r),
-    }
+    let part = c.field(file)?;
+    let op = op_word(file, part.start, part.end).ok_or(Refusal::Form)?;
+    Ok((op, part.next))
 }
 
 // The number that the next field is where the form of the file has the field, else a number that stands for it.
-pub fn number_or(file: &[u8], stands: bool, limit: u32, other: u32, c: Cursor) -> NumberStep
+#[tactic(auto, unfolding(crate::specs::Wording::number_or))]
+pub fn number_or(
+    file: &[u8],
+    stands: bool,
+    limit: u32,
+    other: u32,
+    c: Cursor,
+) -> Result<(u32, Cursor), Refusal>
     requires { Placed file.now c }
     ensures { result ≡ number_or stands limit other file.now c }
 {
     if stands {
         return c.number(file, limit);
     }
-    NumberStep::Number(other, c)
+    Ok((other, c))
 }

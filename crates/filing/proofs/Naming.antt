@@ -33,8 +33,8 @@ use Rattle.records.proofs.Judging.{judged_beyond, repeats_one, taken_elim}
 use Rattle.records.proofs.Recording.{Agree, hides_known, hidden_stay, decls_stay, roots_stay}
 use Rattle.records.proofs.Keeping.{records_named, filing_kept, taken_kept}
 use Rattle.records.proofs.Chaining.{chained_kept}
-use Rattle.model.specs.declared.Step.{Step}
-use Rattle.model.specs.declared.Step.TheVariants as step
+use Rattle.model.specs.Steps.{Step}
+use Rattle.model.specs.Steps as step
 use Rattle.model.specs.Outcome.{working_words}
 use Rattle.words.specs.Slices.{SameBut}
 use Rattle.words.proofs.Slices.{same_self, same_then}

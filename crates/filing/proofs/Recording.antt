@@ -13,15 +13,13 @@ use Rattle.model.specs.Reading.{Result, ok, refused, next, name_field, Content, 
 use Rattle.model.specs.declared.Counts.{Counts}
 use Rattle.model.specs.declared.LineKind.TheVariants as kind
 use Rattle.model.specs.declared.Refusal.{Refusal}
-use Rattle.model.specs.declared.Step.{Step}
-use Rattle.model.specs.declared.Step.TheVariants as step
+use Rattle.model.specs.Steps.{Step}
+use Rattle.model.specs.Steps as step
 use Rattle.text.specs.declared.Cursor.{Cursor}
 use Rattle.text.specs.Parts.{fields_left}
 use Rattle.names.specs.Table.{name_of}
 use Rattle.fields.specs.declared.RecordKind.{RecordKind}
 use Rattle.fields.specs.Wording.{record_line_kind}
-use Rattle.fields.specs.declared.Word.{Word}
-use Rattle.fields.specs.declared.Word.TheVariants as word
 use Rattle.fields.specs.Spelling.{Begun, table_there, ReadsName}
 use Rattle.fields.proofs.Spelling.{NameRead, reads_not}
 use Rattle.records.specs.States.{state_of}
@@ -101,7 +99,7 @@ record_line grouped count fs e l = rw e l
 
 module _ {file names refs rows recs lists : List ℕ} {k : Counts} (n : ℕ) {c : Cursor} (st : Standing file names refs rows recs lists k) where
   -- the name is refused
-  pub name_not : {names' : List ℕ} {w : Word} {x : Refusal} {said : Result Content} → ReadsName file names names' k.names c w → w ≡ word.Refused x
+  pub name_not : {names' : List ℕ} {w : Result (ℕ × ℕ × Cursor)} {x : Refusal} {said : Result Content} → ReadsName file names names' k.names c w → w ≡ refused x
       → (next name_field (fields_left file c) ≡ refused x → said ≡ refused x)
       → LineRead file names refs rows recs lists names' refs rows recs lists k n said (step.Refused x)
   name_not {x = x} r e says =

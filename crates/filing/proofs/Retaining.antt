@@ -12,14 +12,12 @@ use Rattle.model.specs.declared.Counts.{Counts}
 use Rattle.model.specs.declared.LineKind.TheVariants as kind
 use Rattle.model.specs.declared.Refusal.{Refusal}
 use Rattle.model.specs.declared.Refusal.TheVariants as refusal
-use Rattle.model.specs.declared.Step.{Step}
-use Rattle.model.specs.declared.Step.TheVariants as step
+use Rattle.model.specs.Steps.{Step}
+use Rattle.model.specs.Steps as step
 use Rattle.model.proofs.ResultLaws.{ok_eq, not_ok}
 use Rattle.laws.proofs.ReadingLaws.{past_names as many_names}
 use Rattle.text.specs.declared.Cursor.{Cursor}
 use Rattle.names.specs.Table.{table_names}
-use Rattle.fields.specs.declared.Upto.{Upto}
-use Rattle.fields.specs.declared.Upto.TheVariants as upto
 use Rattle.fields.specs.Spelling.{Naming, Longer, spell_fields, SpellsRest, all_spelt, rest_not}
 use Rattle.fields.proofs.Spelling.{naming_table, naming_past, spell_law}
 use Rattle.records.specs.States.{state_of}
@@ -74,17 +72,17 @@ module _ {file names refs rows recs lists names' : List ℕ} {k : Counts} (n : �
 
 module _ {file names refs rows recs lists names' : List ℕ} {k : Counts} (n : ℕ) {fs : List Field} (st : Standing file names refs rows recs lists k) where
   -- the tables with the names spelled
-  pub rest_standing : {u : Upto} {named' : ℕ} {after : Cursor} {next : Counts} → SpellsRest file names names' k.names fs u → u ≡ upto.At named' after
+  pub rest_standing : {u : Result (ℕ × Cursor)} {named' : ℕ} {after : Cursor} {next : Counts} → SpellsRest file names names' k.names fs u → u ≡ ok (named', after)
       → next ≡ with_names k named' → next.names ≤ most_names → Standing file names' refs rows recs lists next
   rest_standing {u} {named'} {after} {next} r e q = go (rw e at r) q
     where
-      go : SpellsRest file names names' k.names fs (upto.At named' after) → next ≡ with_names k named'
+      go : SpellsRest file names names' k.names fs (ok (named', after)) → next ≡ with_names k named'
           → next.names ≤ most_names → Standing file names' refs rows recs lists next
       go (all_spelt run naming longer) d = rw d (λ h. standing_spelled st longer (naming_table naming h).0)
 
   -- a `retain`
-  pub retain_line : {u : Upto} {named' : ℕ} {after : Cursor} {next : Counts} {recs'' : List ℕ} {f : Step}
-      → SpellsRest file names names' k.names fs u → u ≡ upto.At named' after → next ≡ with_names k named'
+  pub retain_line : {u : Result (ℕ × Cursor)} {named' : ℕ} {after : Cursor} {next : Counts} {recs'' : List ℕ} {f : Step}
+      → SpellsRest file names names' k.names fs u → u ≡ ok (named', after) → next ≡ with_names k named'
       → Adds file names' refs rows recs lists names' rows recs'' lists next n (retain []) f → Untouched names' rows recs lists names' rows recs'' lists
       → LineRead file names refs rows recs lists names' refs rows recs'' lists k n (content kind.Retain k.grouped k.terms fs) f
   unfolding judged
@@ -99,7 +97,7 @@ module _ {file names refs rows recs lists names' : List ℕ} {k : Counts} (n : �
       reads ms naming longer d z (adds.added {k'} j y) = goes_on {k' = k'}
           (rw d (retain_there n st ms naming longer z (few_names file names' refs rows recs lists k named' n (retain []) j y) ∙ j)) y
 
-      go : {f : Step} → SpellsRest file names names' k.names fs (upto.At named' after)
+      go : {f : Step} → SpellsRest file names names' k.names fs (ok (named', after))
           → Adds file names' refs rows recs lists names' rows recs'' lists (with_names k named') n (retain []) f
           → LineRead file names refs rows recs lists names' refs rows recs'' lists k n (content kind.Retain k.grouped k.terms fs) f
       go (all_spelt {ns} run naming longer) b =
@@ -107,11 +105,11 @@ module _ {file names refs rows recs lists names' : List ℕ} {k : Counts} (n : �
           record { reads = reads ms naming longer d z b; past = past_then refs (spelled_past longer) x }
 
   -- a name is refused
-  pub retain_not : {u : Upto} {x : Refusal} → SpellsRest file names names' k.names fs u → u ≡ upto.Refused x
+  pub retain_not : {u : Result (ℕ × Cursor)} {x : Refusal} → SpellsRest file names names' k.names fs u → u ≡ refused x
       → LineRead file names refs rows recs lists names' refs rows recs lists k n (content kind.Retain k.grouped k.terms fs) (step.Refused x)
   retain_not {u} {x} r e = go (rw e at r)
     where
-      go : SpellsRest file names names' k.names fs (upto.Refused x)
+      go : SpellsRest file names names' k.names fs (refused x)
           → LineRead file names refs rows recs lists names' refs rows recs lists k n (content kind.Retain k.grouped k.terms fs) (step.Refused x)
       go (rest_not d y) = record {
         reads = reads_refused x (retain_refused k.grouped k.terms (table_names file names k.names) fs d);

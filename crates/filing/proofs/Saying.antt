@@ -14,16 +14,12 @@ use Rattle.model.specs.declared.Refusal.{Refusal}
 use Rattle.model.specs.declared.Refusal.TheVariants as refusal
 use Rattle.model.proofs.ResultLaws.{ok_eq, not_ok}
 use Rattle.text.specs.declared.Cursor.{Cursor}
-use Rattle.text.specs.declared.NumberStep.{NumberStep}
-use Rattle.text.specs.declared.NumberStep.TheVariants as numbered
 use Rattle.text.specs.Parts.{Placed, fields_left, term_at, number_at, number_result}
 use Rattle.text.proofs.Laws.{left_none, number_next}
 use Rattle.fields.specs.Wording.{number_or}
 use Rattle.fields.proofs.Numbers.{number_or_field, number_or_placed, number_or_most}
 use Rattle.fields.proofs.Pushing.{left_cons, term_read, term_not}
-use Rattle.filing.specs.declared.Last.{Last}
-use Rattle.filing.specs.declared.Last.TheVariants as last
-use Rattle.filing.specs.Lines.{last_field, last_result, rest_of_assume, rest_of_root}
+use Rattle.filing.specs.Lines.{last_field, rest_of_assume, rest_of_root}
 
 -- a term and the fields after it
 abbrev and_after : List Field → ℕ → Result (ℕ × List Field)
@@ -213,44 +209,34 @@ module _ (count q : ℕ) (fs : List Field) where
 
 -- ---- the steps of the cursor
 
-module _ {file : List ℕ} {c : Cursor} (p : Placed file c) (count : ℕ) {r : NumberStep} (a : r ≡ term_at count file c) where
+module _ {file : List ℕ} {c : Cursor} (p : Placed file c) (count : ℕ) {r : Result (ℕ × Cursor)} (a : r ≡ term_at count file c) where
   -- the last field is a term
-  pub last_is : {t : ℕ} {n : Cursor} → r ≡ numbered.Number t n → n.end < n.at → last_result (last.Term t) ≡ last_field count (fields_left file c)
-  unfolding last_result last_field
+  pub last_is : {t : ℕ} {n : Cursor} → r ≡ ok (t, n) → n.end < n.at → ok t ≡ last_field count (fields_left file c)
+  unfolding last_field
   last_is {t} {n} b h = rw (term_read p count a b, end_none t file n h)
 
   -- a field is left over
-  pub last_more : {t : ℕ} {n : Cursor} → r ≡ numbered.Number t n → n.at ≤ n.end
-      → last_result (last.Refused refusal.Form) ≡ last_field count (fields_left file c)
-  unfolding last_result last_field
+  pub last_more : {t : ℕ} {n : Cursor} → r ≡ ok (t, n) → n.at ≤ n.end → refused refusal.Form ≡ last_field count (fields_left file c)
+  unfolding last_field
   last_more {t} {n} b h = rw (term_read p count a b, end_more t file n h)
 
   -- the field is refused
-  pub last_refused : {x : Refusal} → r ≡ numbered.Refused x → last_result (last.Refused x) ≡ last_field count (fields_left file c)
-  unfolding last_result last_field
+  pub last_refused : {x : Refusal} → r ≡ refused x → refused x ≡ last_field count (fields_left file c)
+  unfolding last_field
   last_refused b = rw (term_not p count a b)
 
--- an answer of the last field
-pub last_term : {r : Last} {v : Result ℕ} {t : ℕ} → last_result r ≡ v → r ≡ last.Term t → v ≡ ok t
-unfolding last_result
-last_term a b = sym a ∙ rw b
-
-pub last_refusal : {r : Last} {v : Result ℕ} {x : Refusal} → last_result r ≡ v → r ≡ last.Refused x → v ≡ refused x
-unfolding last_result
-last_refusal a b = sym a ∙ rw b
-
 -- the cursor after a number
-pub number_placed : {file : List ℕ} {c n : Cursor} {r : NumberStep} {v : ℕ} (limit : ℕ) → Placed file c → r ≡ number_at limit file c → r ≡ numbered.Number v n
+pub number_placed : {file : List ℕ} {c n : Cursor} {r : Result (ℕ × Cursor)} {v : ℕ} (limit : ℕ) → Placed file c → r ≡ number_at limit file c → r ≡ ok (v, n)
     → Placed file n
 number_placed {file} {c} {n} {v = v} limit p a b = (number_next file c p limit v n (sym a ∙ b)).0.placed
 
 -- a number is at most its limit
-pub number_below : {file : List ℕ} {c n : Cursor} {r : NumberStep} {v : ℕ} (limit : ℕ) → Placed file c → r ≡ number_at limit file c → r ≡ numbered.Number v n
+pub number_below : {file : List ℕ} {c n : Cursor} {r : Result (ℕ × Cursor)} {v : ℕ} (limit : ℕ) → Placed file c → r ≡ number_at limit file c → r ≡ ok (v, n)
     → v < limit + 1
 number_below {file} {c} {n} {v = v} limit p a b = omega (arith, (number_next file c p limit v n (sym a ∙ b)).1)
 
 -- the group of a fact
-module _ {file : List ℕ} {c : Cursor} (p : Placed file c) (grouped : Bool) {r : NumberStep} (a : r ≡ number_or grouped most_group 0 file c) where
+module _ {file : List ℕ} {c : Cursor} (p : Placed file c) (grouped : Bool) {r : Result (ℕ × Cursor)} (a : r ≡ number_or grouped most_group 0 file c) where
   -- its field, where the form has one
   group_law : number_result file r ≡ group_field grouped (fields_left file c)
   unfolding group_field
@@ -260,18 +246,18 @@ module _ {file : List ℕ} {c : Cursor} (p : Placed file c) (grouped : Bool) {r 
       go true = refl
       go false = refl
 
-  pub group_read : {v : ℕ} {n : Cursor} → r ≡ numbered.Number v n → group_field grouped (fields_left file c) ≡ ok (v, fields_left file n)
+  pub group_read : {v : ℕ} {n : Cursor} → r ≡ ok (v, n) → group_field grouped (fields_left file c) ≡ ok (v, fields_left file n)
   unfolding number_result
   group_read e = sym group_law ∙ ap (number_result file) e
 
-  pub group_not : {x : Refusal} → r ≡ numbered.Refused x → group_field grouped (fields_left file c) ≡ refused x
+  pub group_not : {x : Refusal} → r ≡ refused x → group_field grouped (fields_left file c) ≡ refused x
   unfolding number_result
   group_not e = sym group_law ∙ ap (number_result file) e
 
   -- the cursor after it
-  pub group_placed : {v : ℕ} {n : Cursor} → r ≡ numbered.Number v n → Placed file n
+  pub group_placed : {v : ℕ} {n : Cursor} → r ≡ ok (v, n) → Placed file n
   group_placed e = number_or_placed p most_group 0 grouped (sym a ∙ e)
 
   -- it is at most its limit
-  pub group_most : {v : ℕ} {n : Cursor} → r ≡ numbered.Number v n → v ≤ most_group
+  pub group_most : {v : ℕ} {n : Cursor} → r ≡ ok (v, n) → v ≤ most_group
   group_most e = number_or_most p most_group 0 grouped (sym a ∙ e) (omega arith)

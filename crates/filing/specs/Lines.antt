@@ -6,14 +6,12 @@ use Rattle.model.specs.Reading.{Result, ok, refused, ◌>>=◌, next, end, name_
 use Rattle.model.specs.Outcome.{working_words}
 use Rattle.model.specs.declared.Counts.{Counts}
 use Rattle.model.specs.declared.Refusal.{Refusal}
-use Rattle.model.specs.declared.Step.{Step}
-use Rattle.model.specs.declared.Step.TheVariants as step
+use Rattle.model.specs.Steps.{Step}
+use Rattle.model.specs.Steps as step
 use Rattle.words.specs.Slices.{SameBut}
 use Rattle.names.specs.Table.{name_of}
 use Rattle.records.specs.States.{state_of}
 use Rattle.records.specs.Adding.{Standing, judge, Adds}
-use Rattle.filing.specs.declared.Last.{Last}
-use Rattle.filing.specs.declared.Last.TheVariants as last
 
 -- the n-th line by what its fields say: a refused field, then 5, then the limits
 unfoldable pub judged : ℕ → State → Result Content → Result State
@@ -22,11 +20,6 @@ judged n s said = said >>= judge n s
 -- the last field of a line, one of `count` terms
 unfoldable pub last_field : ℕ → List Field → Result ℕ
 last_field count fs = next (term_field count) fs >>= λ (t, fs₁). end t fs₁
-
--- an answer as a result
-unfoldable pub last_result : Last → Result ℕ
-last_result (last.Term t) = ok t
-last_result (last.Refused x) = refused x
 
 -- what an `assume` says after its name
 unfoldable pub rest_of_assume : Bool → ℕ → Name → List Field → Result Content

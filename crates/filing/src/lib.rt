@@ -6,50 +6,38 @@ ghost use Rattle.model.specs.declared.LineKind.TheVariants as kind;
 ghost use Rattle.text.specs.Parts.{Placed, fields_left};
 ghost use Rattle.fields.specs.Wording.{record_line_kind};
 ghost use Rattle.records.specs.Adding.{Standing, Untouched};
-ghost use Rattle.filing.specs.Lines.{with_names, last_field, last_result, rest_of_root, AddsFact, LineRead};
+ghost use Rattle.filing.specs.Lines.{with_names, last_field, rest_of_root, AddsFact, LineRead};
 
-use fields::{RecordKind, Upto, Word};
-use model::{Counts, Refusal, Step};
-use text::{Cursor, NumberStep};
+use fields::RecordKind;
+use model::{Counts, Refusal};
+use text::Cursor;
 
 const MOST_FLAG: u32 = 1;
 
 // The group of every fact in the form without groups.
 const ONLY_GROUP: u32 = 0;
 
-// The term that the last field of a line is; or the refusal.
-#[derive(Clone, Copy)]
-enum Last {
-    Term(usize),
-    Refused(Refusal),
-}
-
 // The counts with so many names.
 fn spelled(k: Counts, named: usize) -> Counts
     ensures { result ≡ with_names k named }
 {
-    let mut next = k;
-    next.names = named;
-    next
+    Counts { names: named, ..k }
 }
 
 // Reads the last field of a line, one of `many` terms.
-fn last_term(file: &[u8], many: usize, c: Cursor) -> Last
+fn last_term(file: &[u8], many: usize, c: Cursor) -> Result<usize, Refusal>
     requires { Placed file.now c × (many ≤ most_terms) }
-    ensures { last_result result ≡ last_field many (fields_left file.now c) }
+    ensures { result ≡ last_field many (fields_left file.now c) }
 {
-    match c.term(file, many as u32) {
-        NumberStep::Number(t, next) => {
-            if next.at <= next.end {
-                return Last::Refused(Refusal::Form);
-            }
-            Last::Term(t as usize)
-        }
-        NumberStep::Refused(r) => Last::Refused(r),
+    let (t, next) = c.term(file, many as u32)?;
+    if next.at <= next.end {
+        return Err(Refusal::Form);
     }
+    Ok(t as usize)
 }
 
-// Reads a `hide`, from its name on.
+// Reads a `hide`, from its name on. Like `read_fun` but for the record added: one function that is given the step to run would
+// carry the contract of both, six slices long, which is no plainer. The lent slices stay apart, as C lends them.
 pub fn read_hide(
     file: &[u8],
     names: &mut [u32],
@@ -60,32 +48,28 @@ pub fn read_hide(
     k: Counts,
     n: usize,
     c: Cursor,
-) -> Step
+) -> Result<Counts, Refusal>
     requires { Standing file.now names.old refs.now rows.now recs.old lists.now k × Placed file.now c
         × (n < 4294967296) }
     ensures { LineRead file.now names.old refs.now rows.now
         recs.old lists.now names.new refs.now rows.now recs.new
         lists.now k n (content kind.Hide k.grouped k.terms (fields_left file.now c)) result }
 {
-    match fields::read_name(file, names, k.names, c) {
-        Word::Name(i, named, last) => {
-            if last.at <= last.end {
-                return Step::Refused(Refusal::Form);
-            }
-            records::add_hide(
-                file,
-                names,
-                refs,
-                rows,
-                recs,
-                lists,
-                spelled(k, named),
-                n,
-                i,
-            )
-        }
-        Word::Refused(r) => Step::Refused(r),
+    let (i, named, last) = fields::read_name(file, names, k.names, c)?;
+    if last.at <= last.end {
+        return Err(Refusal::Form);
     }
+    records::add_hide(
+        file,
+        names,
+        refs,
+        rows,
+        recs,
+        lists,
+        spelled(k, named),
+        n,
+        i,
+    )
 }
 
 // Reads a `fun`, from its name on.
@@ -99,35 +83,31 @@ fn read_fun(
     k: Counts,
     n: usize,
     c: Cursor,
-) -> Step
+) -> Result<Counts, Refusal>
     requires { Standing file.now names.old refs.now rows.now recs.old lists.now k × Placed file.now c
         × (n < 4294967296) }
     ensures { LineRead file.now names.old refs.now rows.now
         recs.old lists.now names.new refs.now rows.now recs.new
         lists.now k n (content kind.Fun k.grouped k.terms (fields_left file.now c)) result }
 {
-    match fields::read_name(file, names, k.names, c) {
-        Word::Name(i, named, last) => {
-            if last.at <= last.end {
-                return Step::Refused(Refusal::Form);
-            }
-            records::add_fun(
-                file,
-                names,
-                refs,
-                rows,
-                recs,
-                lists,
-                spelled(k, named),
-                n,
-                i,
-            )
-        }
-        Word::Refused(r) => Step::Refused(r),
+    let (i, named, last) = fields::read_name(file, names, k.names, c)?;
+    if last.at <= last.end {
+        return Err(Refusal::Form);
     }
+    records::add_fun(
+        file,
+        names,
+        refs,
+        rows,
+        recs,
+        lists,
+        spelled(k, named),
+        n,
+        i,
+    )
 }
 
-// Reads a `def`, from its name on.
+// Reads a `def`, from its name on. Like `read_goal` but for the record added: no plainer as one, as with `read_hide`.
 fn read_def(
     file: &[u8],
     names: &mut [u32],
@@ -138,33 +118,27 @@ fn read_def(
     k: Counts,
     n: usize,
     c: Cursor,
-) -> Step
+) -> Result<Counts, Refusal>
     requires { Standing file.now names.old refs.now rows.old recs.old lists.old k × Placed file.now c
         × (n < 4294967296) }
     ensures { LineRead file.now names.old refs.now rows.old
         recs.old lists.old names.new refs.now rows.new recs.new
         lists.new k n (content kind.Def k.grouped k.terms (fields_left file.now c)) result }
 {
-    match fields::read_name(file, names, k.names, c) {
-        Word::Name(i, named, next) => match last_term(file, k.terms, next) {
-            Last::Term(t) => {
-                records::add_def(
-                    file,
-                    names,
-                    refs,
-                    rows,
-                    recs,
-                    lists,
-                    spelled(k, named),
-                    n,
-                    i,
-                    t,
-                )
-            }
-            Last::Refused(r) => Step::Refused(r),
-        },
-        Word::Refused(r) => Step::Refused(r),
-    }
+    let (i, named, next) = fields::read_name(file, names, k.names, c)?;
+    let t = last_term(file, k.terms, next)?;
+    records::add_def(
+        file,
+        names,
+        refs,
+        rows,
+        recs,
+        lists,
+        spelled(k, named),
+        n,
+        i,
+        t,
+    )
 }
 
 // Reads the flag, the group and the term of an `assume` whose name is spelled, and adds the fact.
@@ -179,7 +153,7 @@ fn read_fact(
     n: usize,
     i: usize,
     c: Cursor,
-) -> Step
+) -> Result<Counts, Refusal>
     requires { (k.names ≤ most_names → Standing file.now names.old refs.now rows.old recs.old lists.old k
         × (i < k.names)) × (k.terms ≤ most_terms) × Placed file.now c × (n < 4294967296) }
     ensures record { AddsFact file.now names.old refs.now rows.old
@@ -188,33 +162,23 @@ fn read_fact(
     ensures past { Untouched names.old rows.old recs.old lists.old
         names.new rows.new recs.new lists.new }
 {
-    match c.number(file, MOST_FLAG) {
-        NumberStep::Number(flag, after) => {
-            match fields::number_or(file, k.grouped, model::MOST_GROUP, ONLY_GROUP, after) {
-                NumberStep::Number(group, next) => match last_term(file, k.terms, next) {
-                    Last::Term(t) => {
-                        facts::add_fact(
-                            file,
-                            names,
-                            refs,
-                            rows,
-                            recs,
-                            lists,
-                            k,
-                            n,
-                            i,
-                            flag as usize,
-                            group as usize,
-                            t,
-                        )
-                    }
-                    Last::Refused(r) => Step::Refused(r),
-                },
-                NumberStep::Refused(r) => Step::Refused(r),
-            }
-        }
-        NumberStep::Refused(r) => Step::Refused(r),
-    }
+    let (flag, after) = c.number(file, MOST_FLAG)?;
+    let (group, next) = fields::number_or(file, k.grouped, model::MOST_GROUP, ONLY_GROUP, after)?;
+    let t = last_term(file, k.terms, next)?;
+    facts::add_fact(
+        file,
+        names,
+        refs,
+        rows,
+        recs,
+        lists,
+        k,
+        n,
+        i,
+        flag as usize,
+        group as usize,
+        t,
+    )
 }
 
 // Reads an `assume`, from its name on.
@@ -228,20 +192,16 @@ fn read_assume(
     k: Counts,
     n: usize,
     c: Cursor,
-) -> Step
+) -> Result<Counts, Refusal>
     requires { Standing file.now names.old refs.now rows.old recs.old lists.old k × Placed file.now c
         × (n < 4294967296) }
     ensures { LineRead file.now names.old refs.now rows.old
         recs.old lists.old names.new refs.now rows.new recs.new
         lists.new k n (content kind.Assume k.grouped k.terms (fields_left file.now c)) result }
 {
-    match fields::read_name(file, names, k.names, c) {
-        Word::Name(i, named, next) => {
-            let known = spelled(k, named);
-            read_fact(file, names, refs, rows, recs, lists, known, n, i, next)
-        }
-        Word::Refused(r) => Step::Refused(r),
-    }
+    let (i, named, next) = fields::read_name(file, names, k.names, c)?;
+    let known = spelled(k, named);
+    read_fact(file, names, refs, rows, recs, lists, known, n, i, next)
 }
 
 // Reads a `retain`, from its first name on.
@@ -255,19 +215,15 @@ fn read_retain(
     k: Counts,
     n: usize,
     c: Cursor,
-) -> Step
+) -> Result<Counts, Refusal>
     requires { Standing file.now names.old refs.now rows.now recs.old lists.now k × Placed file.now c
         × (n < 4294967296) }
     ensures { LineRead file.now names.old refs.now rows.now
         recs.old lists.now names.new refs.now rows.now recs.new
         lists.now k n (content kind.Retain k.grouped k.terms (fields_left file.now c)) result }
 {
-    match fields::spell_rest(file, names, k.names, c) {
-        Upto::At(named, _) => {
-            records::add_retain(file, names, refs, rows, recs, lists, spelled(k, named), n)
-        }
-        Upto::Refused(r) => Step::Refused(r),
-    }
+    let (named, _) = fields::spell_rest(file, names, k.names, c)?;
+    records::add_retain(file, names, refs, rows, recs, lists, spelled(k, named), n)
 }
 
 // Reads the name and the term of a `root` of a query, and adds the root.
@@ -282,34 +238,28 @@ fn read_goal(
     n: usize,
     q: usize,
     c: Cursor,
-) -> Step
+) -> Result<Counts, Refusal>
     requires { Standing file.now names.old refs.now rows.old recs.old lists.old k × Placed file.now c
         × (n < 4294967296) × (q < 256) }
     ensures { LineRead file.now names.old refs.now rows.old
         recs.old lists.old names.new refs.now rows.new recs.new
         lists.new k n (rest_of_root k.terms q (fields_left file.now c)) result }
 {
-    match fields::read_name(file, names, k.names, c) {
-        Word::Name(i, named, next) => match last_term(file, k.terms, next) {
-            Last::Term(t) => {
-                records::add_root(
-                    file,
-                    names,
-                    refs,
-                    rows,
-                    recs,
-                    lists,
-                    spelled(k, named),
-                    n,
-                    q,
-                    i,
-                    t,
-                )
-            }
-            Last::Refused(r) => Step::Refused(r),
-        },
-        Word::Refused(r) => Step::Refused(r),
-    }
+    let (i, named, next) = fields::read_name(file, names, k.names, c)?;
+    let t = last_term(file, k.terms, next)?;
+    records::add_root(
+        file,
+        names,
+        refs,
+        rows,
+        recs,
+        lists,
+        spelled(k, named),
+        n,
+        q,
+        i,
+        t,
+    )
 }
 
 // Reads a `root`, from its query on.
@@ -323,19 +273,15 @@ fn read_root(
     k: Counts,
     n: usize,
     c: Cursor,
-) -> Step
+) -> Result<Counts, Refusal>
     requires { Standing file.now names.old refs.now rows.old recs.old lists.old k × Placed file.now c
         × (n < 4294967296) }
     ensures { LineRead file.now names.old refs.now rows.old
         recs.old lists.old names.new refs.now rows.new recs.new
         lists.new k n (content kind.Root k.grouped k.terms (fields_left file.now c)) result }
 {
-    match c.number(file, model::MOST_QUERY) {
-        NumberStep::Number(q, next) => {
-            read_goal(file, names, refs, rows, recs, lists, k, n, q as usize, next)
-        }
-        NumberStep::Refused(r) => Step::Refused(r),
-    }
+    let (q, next) = c.number(file, model::MOST_QUERY)?;
+    read_goal(file, names, refs, rows, recs, lists, k, n, q as usize, next)
 }
 
 // Reads a record line other than `hide`, of a kind, from the field after the kind on.
@@ -350,7 +296,7 @@ pub fn read_record(
     n: usize,
     kind: RecordKind,
     c: Cursor,
-) -> Step
+) -> Result<Counts, Refusal>
     requires { Standing file.now names.old refs.now rows.old recs.old lists.old k × Placed file.now c
         × (n < 4294967296) }
     ensures { LineRead file.now names.old refs.now rows.old

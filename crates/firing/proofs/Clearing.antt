@@ -1,31 +1,20 @@
 -- The columns set to zero: nothing is met or reached; how many records are not reached, and names not met, at most.
 use Prim.Native.Nat.{ℕ, zero, suc, ◌+◌, ◌≤◌, ◌<◌}
 use native.Mathlib.Omega.{arith}
-use native.Mathlib.Numerals.{add-one}
-use mathlib.Core.Path.{◌≡◌, refl, ◌∙◌, subst}
+use mathlib.Core.Path.{◌≡◌, refl, sym, ◌∙◌}
 use mathlib.Core.Bool.{not}
 use mathlib.Core.Logic.{⊎_elim}
 use mathlib.Core.List.{List}
 use lib.Dec.{T}
-use lib.ListN.{length, get_or, set, length-set}
-use lib.Seq.{get_or-set_same, get_or-set_other}
+use lib.ListN.{length, get_or, length-set}
+use lib.Seq.{ext_get_or, get_or-set_same, get_or-set_other}
 use borrow.Author.Tests.{le-ltb}
 use Rattle.model.specs.Reading.{most_records}
 use Rattle.model.proofs.ListLaws.{false_T}
-use Rattle.terms.proofs.Laws.{equal}
+use Rattle.terms.proofs.Laws.{below, equal}
+use Rattle.words.specs.Slices.{Zeroed}
 use Rattle.firing.specs.Met.{reached_column, is_met, is_reached, unreached, unmet, zeroed_to}
 use Rattle.firing.proofs.Numbers.{count_upto}
-
-pub clear_start : (w : List ℕ) → w ≡ zeroed_to 0 w
-unfolding zeroed_to
-clear_start w = refl
-
-pub clear_next : (n : ℕ) (w v : List ℕ) → v ≡ zeroed_to n w → set v n 0 ≡ zeroed_to (n + 1) w
-unfolding zeroed_to
-clear_next n w v e = rw (add-one n, e)
-
-pub clear_end : {n m : ℕ} (w v : List ℕ) → v ≡ zeroed_to n w → n ≤ m → m ≤ n → v ≡ zeroed_to m w
-clear_end {n} {m} w v e a b = let z : n ≡ m = omega arith in subst (λ k. v ≡ zeroed_to k w) z e
 
 pub clear_length : (n : ℕ) (w : List ℕ) → length (zeroed_to n w) ≡ length w
 unfolding zeroed_to
@@ -45,6 +34,16 @@ pub clear_far : (n : ℕ) (w : List ℕ) (i : ℕ) → n ≤ i → get_or (zeroe
 unfolding zeroed_to
 clear_far zero w i k = refl
 clear_far (suc n) w i k = get_or-set_other (zeroed_to n w) n i 0 0 (λ e. omega arith) ∙ clear_far n w i (omega arith)
+
+-- what clears a column from word 0 on
+pub zeroed_is : (n : ℕ) (w v : List ℕ) → n ≤ length w → Zeroed 0 n w v → v ≡ zeroed_to n w
+zeroed_is n w v l z =
+    ext_get_or 0 v (zeroed_to n w) (z.same.same_length ∙ sym (clear_length n w)) words
+  where
+    words : (i : ℕ) → i < length v → get_or v i 0 ≡ get_or (zeroed_to n w) i 0
+    words i h =
+        ⊎_elim (λ (x : i < n). z.zero i (omega arith) (omega arith) ∙ sym (clear_zero n w l i x))
+        (λ (x : n ≤ i). z.same.same_words i (λ a b. omega arith) ∙ sym (clear_far n w i x)) (below i n)
 
 pub few_unreached : (w : List ℕ) → unreached w ≤ most_records
 unfolding unreached

@@ -11,8 +11,8 @@ use borrow.Author.Tests.{ltb-true, lt-ltb}
 use Rattle.model.specs.Lists.{count, sum, collect, concat, part}
 use Rattle.model.specs.Names.{Name, order, add, add_by, from_list}
 use Rattle.model.specs.Summaries.{entries}
-use Rattle.model.specs.declared.Order.{Order}
-use Rattle.model.specs.declared.Order.TheVariants.{Before, Same, After}
+use Rattle.std.specs.declared.cmp.Ordering.{Ordering as Order}
+use Rattle.std.specs.declared.cmp.Ordering.TheVariants.{Less as Before, Equal as Same, Greater as After}
 use Rattle.model.proofs.ListLaws.{count_append, concat_intro, concat_elim, collect_intro, collect_elim, map_intro, map_elim}
 use Rattle.model.proofs.SetLaws.{add_length, from_list_length, mem_intro, mem_elim, mem_from_list}
 use Rattle.model.proofs.PartLaws.{part_nil, part_snoc}

@@ -1,7 +1,7 @@
 -- What the functions that meet names cite.
 use Prim.Native.Nat.{ℕ, ◌+◌, ◌-◌, ◌≤◌, ◌<◌}
 use native.Mathlib.Omega.{arith}
-use mathlib.Core.Path.{◌≡◌, refl, sym, ◌∙◌, ap}
+use mathlib.Core.Path.{◌≡◌, sym, ◌∙◌, ap}
 use mathlib.Core.List.{List, ◌∷◌}
 use lib.ListN.{length, get_or, set}
 use borrow.Author.Tests.{eq-eqb, ne_eqb, lt-ltb, le-ltb}
@@ -31,21 +31,13 @@ mark_stay r w n x e d = rw (ne_eqb (get_or w n 0) 0 (λ z. d (e ∙ z)))
 
 -- from place i on there is left what from the start there was
 pub record Met (l w₀ : List ℕ) (a e r : ℕ) (w : List ℕ) (i : ℕ) : Type 0 where
-  pub low : a ≤ i
-  pub high : i ≤ e
   pub same_length : length w ≡ length w₀
   pub left : marks r w₀ (part l a e) ≡ marks r w (part l i e)
 
 module _ {l w₀ : List ℕ} {a e r : ℕ} where
-  pub meet_start : a ≤ e → Met l w₀ a e r w₀ a
-  meet_start h = record { low = omega arith; high = h; same_length = refl; left = refl }
-
   pub meet_next : {w v : List ℕ} {i x : ℕ} → Met l w₀ a e r w i → i < e → e ≤ length l → x ≡ get_or l i 0 → v ≡ mark r w x → Met l w₀ a e r v (i + 1)
   meet_next {w} {v} {i} {x} m h b c d =
-      let lo = m.low in
       record {
-        low = omega arith;
-        high = omega arith;
         same_length = ap length d ∙ mark_length r w x ∙ m.same_length;
         left = m.left ∙ rw (part_cons l i e h b, marks_cons, ← c, ← d);
       }
@@ -85,23 +77,15 @@ module _ {names recs lists : List ℕ} {k : Counts} (laid : Laid names recs list
 
 -- from place i on there is left what from the start there was
 pub record MetAll (opens : ℕ → List ℕ) (l w₀ : List ℕ) (a e r : ℕ) (w : List ℕ) (i : ℕ) : Type 0 where
-  pub low : a ≤ i
-  pub high : i ≤ e
   pub same_length : length w ≡ length w₀
   pub left : marks r w₀ (opened_all opens (part l a e)) ≡ marks r w (opened_all opens (part l i e))
 
 module _ {opens : ℕ → List ℕ} {l w₀ : List ℕ} {a e r : ℕ} where
-  pub all_start : a ≤ e → MetAll opens l w₀ a e r w₀ a
-  all_start p = record { low = omega arith; high = p; same_length = refl; left = refl }
-
   pub all_next : {w v u : List ℕ} {i x : ℕ} → MetAll opens l w₀ a e r w i → i < e → e ≤ length l → x ≡ get_or l i 0 → v ≡ mark r w x
       → u ≡ marks r v (opens x) → MetAll opens l w₀ a e r u (i + 1)
   unfolding opened_all collect
   all_next {w} {v} {u} {i} {x} m p b c d f =
-      let lo = m.low in
       record {
-        low = omega arith;
-        high = omega arith;
         same_length = ap length f ∙ marks_length r v (opens x) ∙ ap length d ∙ mark_length r w x ∙ m.same_length;
         left = m.left
             ∙ rw (

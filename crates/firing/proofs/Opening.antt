@@ -4,8 +4,8 @@ use native.Mathlib.Omega.{arith}
 use mathlib.Core.Path.{◌≡◌, refl, sym, ap, ◌∙◌}
 use mathlib.Core.Bool.{Bool, true, false, cond, ◌&&◌}
 use mathlib.Core.Logic.{◌⊎◌, inl, inr, ⊎_elim, ◌↔◌}
-use mathlib.Core.Option
-use mathlib.Core.Option.{Option, none, some}
+use Rattle.std.specs.Option as Option
+use Rattle.std.specs.Prelude.{Option, None as none, Some as some}
 use mathlib.Core.List.{List, [], ◌∷◌, map, Memᴰ}
 use lib.ListN.{length, get_or}
 use lib.Dec.{T, leb, ltb, eqb, eqb→eq, ltb→lt, leb→le, le→leb, lt→ltb}
@@ -162,7 +162,7 @@ module _ {file names recs lists : List ℕ} {named records entries uses : ℕ} (
 
   -- what a name is bound to
   abbrev SameNames : Option (List Name) → ℕ → List ℕ → Type 0
-  SameNames o m ns = Memᴰ (name m) (Option.get_or o []) ↔ Memᴰ m ns
+  SameNames o m ns = Memᴰ (name m) (Option.unwrap_or o []) ↔ Memᴰ m ns
 
   -- the free names of a record, by number
   free_exact : (i m : ℕ) → i < records → m < named → Memᴰ (name m) (free_at name recs lists i) ↔ Memᴰ m (uses_at recs lists i)

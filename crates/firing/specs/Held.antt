@@ -1,6 +1,5 @@
 -- What an engine asks of the tables, on numbers: names, records, filed trigger entries.
-use Rattle.std.specs.Prelude.{ℕ, zero, suc, ◌≤◌, ◌<◌, ◌≡◌, Bool, ◌&&◌, ◌↔◌, T, ltb, eqb}
-use Rattle.std.proofs.Math.Option.{get_or}
+use Rattle.std.specs.Prelude.{ℕ, zero, suc, ◌≤◌, ◌<◌, ◌≡◌, Bool, ◌&&◌, ◌↔◌, T, ltb, eqb, unwrap_or as get_or}
 use mathlib.Core.List.{List, [], ◌∷◌, map, Memᴰ}
 use Rattle.model.specs.Lists.{keep, count}
 use Rattle.model.specs.Names.{Name, from_list}

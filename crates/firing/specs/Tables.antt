@@ -8,9 +8,10 @@ use Rattle.triggers.specs.Entries.{Entries, disjuncts_of_words, no_name}
 use Rattle.records.specs.Columns.{record_name, record_flag, uses_start, uses_end, entries_start, entries_end, entry_name, entry_fact, next_entry, macro_at, first_entry, record_kind, summary_code, root_kind, code_of}
 use Rattle.records.specs.States.{uses_at, entries_at, takes_part, ask_of}
 use Rattle.records.specs.Filing.{newest}
-use Rattle.macros.specs.Macros.{opened_word, opens_at}
+use Rattle.macros.specs.Macros.{opened_word, opens_at, Filled}
 use Rattle.firing.specs.Held.{Held, Fits}
 use Rattle.firing.specs.Firing.{opened_all}
+use Rattle.firing.specs.declared.tables.RecordTables.{RecordTables}
 use Rattle.model.specs.Rounds.{asks_for}
 use Rattle.model.specs.declared.AsumKind.TheVariants.{Ambient}
 
@@ -68,3 +69,15 @@ pub record Laid (names recs lists : List ℕ) (k : Counts) : Type 0 where
   pub macro_name : (n : ℕ) → n < k.names → opened_word ≤ macro_at names n → macro_at names n < opened_word + k.names
   pub first : (n : ℕ) → n < k.names → first_entry names n ≡ newest (entry_name lists) n k.entries
   pub next : (e : ℕ) → e < k.entries → entry_name lists e < no_name → next_entry lists e ≡ newest (entry_name lists) (entry_name lists e) e
+
+-- the same of the tables that are lent
+abbrev pub IsLaid : RecordTables → Type 0
+IsLaid t = Laid t.names.now t.recs.now t.lists.now t.k
+
+-- the numbers in them
+abbrev pub held_in : RecordTables → Asked → Held
+held_in t a = held_of t.names.now t.recs.now t.lists.now t.k a
+
+-- what the reader filled them with
+abbrev pub IsFilled : List ℕ → RecordTables → Type 0
+IsFilled file t = Filled file t.names.now t.recs.now t.lists.now t.k

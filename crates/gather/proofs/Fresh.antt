@@ -3,7 +3,7 @@ use Prim.Native.Nat.{ℕ, ◌+◌, ◌≤◌}
 use native.Mathlib.Omega.{arith}
 use mathlib.Core.Logic.{⊎_elim}
 use mathlib.Core.List.{List}
-use Rattle.gather.specs.declared.Walked.{Walked}
+use Rattle.std.specs.Prelude.{Option}
 use Rattle.gather.specs.Sets.{Fresh, Gathered}
 
 -- marks below one mark are below a later one
@@ -11,7 +11,7 @@ pub fresh_later : {names rows : List ℕ} (m n : ℕ) → m ≤ n → Fresh name
 fresh_later m n h f = record { row_marks = λ t l. omega (arith, f.row_marks t l); name_marks = λ k l. omega (arith, f.name_marks k l) }
 
 -- the marks after gathering a set are below the next one
-pub fresh_next : {names rows lists names' rows' lists' : List ℕ} {mark at room : ℕ} {r : Walked} → Fresh names rows mark
+pub fresh_next : {names rows lists names' rows' lists' : List ℕ} {mark at room : ℕ} {r : Option ℕ} → Fresh names rows mark
     → Gathered names rows lists names' rows' lists' mark at room r → Fresh names' rows' (mark + 1)
 fresh_next f g = record {
   row_marks = λ t l. ⊎_elim (λ e. omega arith) (λ e. omega (arith, f.row_marks t l)) (g.row_marks t l);

@@ -10,7 +10,7 @@ use Rattle.model.specs.Lists.{part}
 use Rattle.model.specs.Names.{Name}
 use Rattle.model.specs.Summaries.{free_top_level_names, group_names}
 use Rattle.model.proofs.PartLaws.{part_elim, part_intro}
-use Rattle.gather.specs.declared.Walked.{Walked}
+use Rattle.std.specs.Prelude.{Option}
 use Rattle.terms.specs.Rows.{terms_of_words, terms_of, Rows}
 use Rattle.gather.specs.Sets.{row_mark, name_mark, Fresh, Named, ended, Gathers, Gathered}
 use Rattle.gather.specs.Walks.{Free, Among, WalkReady, References, Steps, Walks, MarkedListed}
@@ -30,7 +30,7 @@ fresh_row {t} r new l e =
     omega arith
 
 -- the names with the mark are those in the slice
-marks_of : {P : ℕ → Type 0} {names lists names' lists' : List ℕ} {mark from room : ℕ} {answer : Walked} → ((k : ℕ) → k < 2048 → name_mark names k ≡ mark → ⊥)
+marks_of : {P : ℕ → Type 0} {names lists names' lists' : List ℕ} {mark from room : ℕ} {answer : Option ℕ} → ((k : ℕ) → k < 2048 → name_mark names k ≡ mark → ⊥)
     → room ≤ length lists
     → Steps P names lists names' lists' mark from room answer → (k : ℕ) → k < 2048 → (name_mark names' k ≡ mark) ↔ Memᴰ k (part lists' from (ended room answer))
 marks_of {names'} {lists'} {mark} {from} {room} {answer} fresh high s k l =
@@ -54,7 +54,7 @@ module _ {names refs rows lists : List ℕ} {used many named mark from room : �
         high = high;
       }
 
-  module _ {names' rows' lists' : List ℕ} {answer : Walked} (low : from ≤ room) (high : room ≤ length lists) where
+  module _ {names' rows' lists' : List ℕ} {answer : Option ℕ} (low : from ≤ room) (high : room ≤ length lists) where
     -- a walk of a term gathers its names
     pub gathers_term : {t : ℕ} → t < many → Walks (Free names refs rows used many t) names refs rows lists names' rows' lists' used many mark from room answer
         → (exclude : List Name) (name : ℕ → Name) → Named exclude name names named

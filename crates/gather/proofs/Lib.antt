@@ -7,3 +7,4 @@ pub mod Reaching
 pub mod Naming
 pub mod Gather
 pub mod Fresh
+pub mod Room

@@ -12,12 +12,11 @@ use Rattle.model.specs.Lists.{fold_left, part}
 use Rattle.model.specs.Names.{Name, mem, add, add_by, from_list, union}
 use Rattle.model.specs.Terms.{term, references}
 use Rattle.model.specs.Summaries.{free_top_level_names, group_names}
-use Rattle.model.specs.declared.Order.{Order}
+use Rattle.std.specs.declared.cmp.Ordering.{Ordering as Order}
 use Rattle.model.proofs.ListLaws.{T_false, false_T, map_intro, map_elim}
 use Rattle.model.proofs.SetLaws.{mem_intro, mem_elim, mem_cons, mem_later, mem_union, mem_from_list, mem_diff, Compared, first, equal as equal_names, second, compared, Ascending, empty, ascending_union, ascending_from_list, ascending_diff, ascending_ext, subset_length}
 use Rattle.model.proofs.PartLaws.{part_cons, part_elim, part_intro, part_length, part_nil}
-use Rattle.gather.specs.declared.Walked.{Walked}
-use Rattle.gather.specs.declared.Walked.TheVariants as walks
+use Rattle.std.specs.Prelude.{Option, None as none, Some as some}
 use Rattle.terms.specs.Rows.{row_kind, row_op, row_head, row_start, row_extra, row_end, terms_of_words, op_of_code, node_of, terms_of, Rows}
 use Rattle.gather.specs.Sets.{name_mark, Named, Gathers, all_names, no_room, ended}
 use Rattle.gather.specs.Walks.{Occurs, own, under, Free, Among, References, Comes, whole, over, Steps, MarkedListed}
@@ -204,7 +203,7 @@ module _ {names refs rows : List ℕ} {used many named : ℕ} {exclude : List Na
 
 -- a list of names no two of which are alike
 data Apart : List Name → Type 0 where
-  none : Apart []
+  nothing : Apart []
   more : {n : Name} {ns : List Name} → (T (mem n ns) → ⊥) → Apart ns → Apart (n ∷ ns)
 
 -- a set with a new name has one more
@@ -221,7 +220,7 @@ add_length n (m ∷ ms) h = go (add n ms) (add_length n ms (λ t. h (mem_later n
 -- the set of names no two of which are alike has as many
 apart_length : {l : List Name} → Apart l → length (from_list l) ≡ length l
 unfolding from_list
-apart_length none = refl
+apart_length nothing = refl
 apart_length (more {n} {ns} h a) = add_length n (from_list ns) (λ t. h ((mem_from_list n ns).0 t)) ∙ ap suc (apart_length a)
 
 module _ (name : ℕ → Name) where
@@ -240,7 +239,7 @@ module _ (name : ℕ → Name) where
   -- words whose names are all different
   words_apart : (lists : List ℕ) (d a e : ℕ) → e - a ≡ d → e ≤ length lists → ((i j : ℕ) → a ≤ i → i < j → j < e → name (get_or lists i 0) ≡ name (get_or lists j 0) → ⊥)
       → Apart (map name (part lists a e))
-  words_apart lists zero a e q h u = rw (part_nil lists a e (omega arith)) none
+  words_apart lists zero a e q h u = rw (part_nil lists a e (omega arith)) nothing
   words_apart lists (suc d) a e q h u =
       rw (part_cons lists a e (omega arith) h)
       (more (λ t. let (i, (l, k, v)) = map_place lists (a + 1) e h t in u a i (omega arith) (omega arith) k v)
@@ -275,7 +274,7 @@ module _ {P : ℕ → Type 0} (names lists names' lists' : List ℕ) (mark from 
     listed_length l = length-map (part lists' from n) name ∙ part_length lists' from n fits
 
     -- all names are in the slice
-    gathers_all : from ≤ n → n ≤ room → ((k : ℕ) → P k → name_mark names' k ≡ mark) → Gathers name named set from room lists' (walks.Names n)
+    gathers_all : from ≤ n → n ≤ room → ((k : ℕ) → P k → name_mark names' k ≡ mark) → Gathers name named set from room lists' (some n)
     gathers_all l b all = all_names same (rw (← same) (omega (arith, apart_length listed_apart, listed_length l))) b (λ i a c. (small _ (listed_in i a c)).0)
       where
         same : from_list (map name (part lists' from n)) ≡ set
@@ -286,7 +285,7 @@ module _ {P : ℕ → Type 0} (names lists names' lists' : List ℕ) (mark from 
             (mem_from_list x (map name (part lists' from n))).1 (rw (e, ← q) (place_map name lists' from n i fits a c)))
 
     -- a name of the set is not in the slice, which is full
-    gathers_over : from ≤ n → room ≡ n → {k : ℕ} → P k → (name_mark names' k ≡ mark → ⊥) → Gathers name named set from room lists' walks.Full
+    gathers_over : from ≤ n → room ≡ n → {k : ℕ} → P k → (name_mark names' k ≡ mark → ⊥) → Gathers name named set from room lists' none
     gathers_over l q {k} p new = no_room
         (omega (arith, apart_length longer, listed_length l, subset_length (ascending_from_list (name k ∷ map name (part lists' from n))) s.is_set within))
         (λ i a c. let m = listed_in i a (omega arith) in ((small _ m).0, s.into (get_or lists' i 0) m))
@@ -301,16 +300,16 @@ module _ {P : ℕ → Type 0} (names lists names' lists' : List ℕ) (mark from 
             ((mem_cons x (name k) (map name (part lists' from n))).0 ((mem_from_list x (name k ∷ map name (part lists' from n))).0 t))
 
   -- what a walk of the set's names comes to
-  pub steps_gathers : {r : Walked} → Steps P names lists names' lists' mark from room r → Gathers name named set from room lists' r
+  pub steps_gathers : {r : Option ℕ} → Steps P names lists names' lists' mark from room r → Gathers name named set from room lists' r
   unfolding ended
-  steps_gathers {r = walks.Names n} w =
+  steps_gathers {r = some n} w =
       gathers_all n (rw w.lists_same.same_length (omega (arith, w.fits))) (w.listed from (omega arith) (start_listed fresh)) w.sound w.grows
       w.fits (all w.comes)
     where
-      all : Comes P names' mark (walks.Names n) → (k : ℕ) → P k → name_mark names' k ≡ mark
+      all : Comes P names' mark (some n) → (k : ℕ) → P k → name_mark names' k ≡ mark
       all (whole a) = a
-  steps_gathers {r = walks.Full} w = go w.comes
+  steps_gathers {r = none} w = go w.comes
     where
-      go : Comes P names' mark walks.Full → Gathers name named set from room lists' walks.Full
+      go : Comes P names' mark none → Gathers name named set from room lists' none
       go (over {k} p l new) = gathers_over room (rw w.lists_same.same_length high) (w.listed from (omega arith) (start_listed fresh))
           w.sound low refl p new

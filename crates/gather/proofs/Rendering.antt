@@ -11,8 +11,7 @@ use borrow.Author.Tests.{lt-ltb, le-ltb}
 use Rattle.model.specs.Lists.{fold_left, part}
 use Rattle.model.proofs.ListLaws.{true_T, fold_left_append}
 use Rattle.model.proofs.PartLaws.{part_nil}
-use Rattle.gather.specs.declared.Walked.{Walked}
-use Rattle.gather.specs.declared.Walked.TheVariants as walks
+use Rattle.std.specs.Prelude.{Option, None as none, Some as some}
 use Rattle.terms.specs.Rows.{row_kind, row_head, row_start, row_end, has_head, terms_of_words, Rows}
 use Rattle.terms.proofs.Groups.{terms_split, terms_more}
 use Rattle.words.specs.Slices.{SameBut}
@@ -27,25 +26,25 @@ use Rattle.gather.proofs.Visiting.{marked_more, marked_same, marked_has, unmarke
 -- ---- what the slices tell of a walk
 
 -- after names the walk has not stopped, and the names end at its last
-pub answer_names : (from : ℕ) (v : Visit) {n : ℕ} → walks.Names n ≡ walk_answer from v → (v.full ≡ false) × (n ≡ from + length v.found)
+pub answer_names : (from : ℕ) (v : Visit) {n : ℕ} → some n ≡ walk_answer from v → (v.full ≡ false) × (n ≡ from + length v.found)
 unfolding walk_answer
 answer_names from v {n} e = go v.full refl e
   where
-    go : (b : Bool) → v.full ≡ b → walks.Names n ≡ cond b walks.Full (walks.Names (from + length v.found))
+    go : (b : Bool) → v.full ≡ b → some n ≡ cond b none (some (from + length v.found))
         → (v.full ≡ false) × (n ≡ from + length v.found)
     go true q e = let z : ◌≡◌ {A = ℕ} 0 1 = cc in let n : ⊥ = omega arith in absurd n
     go false q e = (q, cc)
 
 -- without room it has
-pub answer_full : (from : ℕ) (v : Visit) → walks.Full ≡ walk_answer from v → v.full ≡ true
+pub answer_full : (from : ℕ) (v : Visit) → none ≡ walk_answer from v → v.full ≡ true
 unfolding walk_answer
 answer_full from v e = go v.full refl e
   where
-    go : (b : Bool) → v.full ≡ b → walks.Full ≡ cond b walks.Full (walks.Names (from + length v.found)) → v.full ≡ true
+    go : (b : Bool) → v.full ≡ b → none ≡ cond b none (some (from + length v.found)) → v.full ≡ true
     go true q e = q
     go false q e = let z : ◌≡◌ {A = ℕ} 0 1 = cc in let n : ⊥ = omega arith in absurd n
 
-module _ {v : Visit} {names rows lists names' rows' lists' : List ℕ} {mark from : ℕ} {r : Walked} (h : Renders v names rows lists names' rows' lists' mark from r) where
+module _ {v : Visit} {names rows lists names' rows' lists' : List ℕ} {mark from : ℕ} {r : Option ℕ} (h : Renders v names rows lists names' rows' lists' mark from r) where
   -- the names differ in marks alone
   names_as : SameBut 8192 2048 names names'
   names_as = rw h.walk.name_words (marked_same 8192 mark 2048 v.found names h.found_small)
@@ -94,7 +93,7 @@ find_full room v n h = rw (le-ltb (length v.found) room h)
 
 module _ {names rows lists : List ℕ} {t count room : ℕ} (h : Heads names rows lists t count room) (mark : ℕ) where
   -- the row has no head
-  pub follow_none : has_head (row_kind rows t) ≡ false → Follows (head_part t) names rows lists names rows lists mark count room (walks.Names count)
+  pub follow_none : has_head (row_kind rows t) ≡ false → Follows (head_part t) names rows lists names rows lists mark count room (some count)
   follow_none e = record {
     follows = λ {names₀} {rows₀} {lists₀} {from} {v} w.
         let k : has_head (row_kind rows₀ t) ≡ false = ap has_head (sym (kind_same (rows_as w) t h.is_row)) ∙ e in
@@ -107,7 +106,7 @@ module _ {names rows lists : List ℕ} {t count room : ℕ} (h : Heads names row
     small = rw is (h.head_small (true_T headed))
 
     -- the walk of the head by what the slices tell of it
-    head_told : {names₀ rows₀ lists₀ : List ℕ} {from : ℕ} {v : Visit} {b c : Bool} → Renders v names₀ rows₀ lists₀ names rows lists mark from (walks.Names count)
+    head_told : {names₀ rows₀ lists₀ : List ℕ} {from : ℕ} {v : Visit} {b c : Bool} → Renders v names₀ rows₀ lists₀ names rows lists mark from (some count)
         → is_excluded names n ≡ b → has v.found n ≡ c → head_part t names₀ rows₀ (room - from) v ≡ cond (not b && not c) (find (room - from) v n) v
     head_told {names₀} {rows₀} {from} {v} w p q =
         let s = small in
@@ -115,17 +114,17 @@ module _ {names rows lists : List ℕ} {t count room : ℕ} (h : Heads names row
         (sym (excluded_same (names_as w) n s) ∙ p) q
 
     -- the head does not count
-    pub follow_excluded : is_excluded names n ≡ true → Follows (head_part t) names rows lists names rows lists mark count room (walks.Names count)
+    pub follow_excluded : is_excluded names n ≡ true → Follows (head_part t) names rows lists names rows lists mark count room (some count)
     follow_excluded e = record { follows = λ w. rw (head_told w e refl) w }
 
     module _ (counted : is_excluded names n ≡ false) where
       -- the head is there already
-      pub follow_found : name_mark names n ≡ mark → Follows (head_part t) names rows lists names rows lists mark count room (walks.Names count)
+      pub follow_found : name_mark names n ≡ mark → Follows (head_part t) names rows lists names rows lists mark count room (some count)
       follow_found e = record { follows = λ w. rw (head_told w counted (found_true w n small e)) w }
 
       module _ (new : name_mark names n ≡ mark → ⊥) where
         -- there is no room for the head
-        pub follow_over : room ≤ count → Follows (head_part t) names rows lists names rows lists mark count room walks.Full
+        pub follow_over : room ≤ count → Follows (head_part t) names rows lists names rows lists mark count room none
         unfolding walk_answer
         follow_over e = record {
           follows = λ {from} {v} w.
@@ -141,7 +140,7 @@ module _ {names rows lists : List ℕ} {t count room : ℕ} (h : Heads names row
 
         -- the head is added
         pub follow_added : count < room → Follows (head_part t) names rows lists (set names (8192 + n) mark) rows (set lists count n) mark count room
-            (walks.Names (count + 1))
+            (some (count + 1))
         unfolding walk_answer
         follow_added e = record {
           follows = λ {names₀} {rows₀} {lists₀} {from} {v} w.
@@ -151,7 +150,7 @@ module _ {names rows lists : List ℕ} {t count room : ℕ} (h : Heads names row
               (record {
                 new = w.new;
                 walk = record {
-                  answer = ap walks.Names more;
+                  answer = ap some more;
                   name_words = rw w.walk.name_words (sym (marked_more 8192 mark v.found n names₀));
                   row_words = w.walk.row_words;
                   lists_words = rw (w.walk.lists_words, ends) (sym (put_more from v.found n lists₀));
@@ -169,18 +168,18 @@ abbrev both : Part → Part → Part
 both f g names rows room v = g names rows room (f names rows room v)
 
 -- one part after another
-follows_then : {f g : Part} {names rows lists names' rows' lists' names'' rows'' lists'' : List ℕ} {mark count n room : ℕ} {r : Walked}
-    → Follows f names rows lists names' rows' lists' mark count room (walks.Names n) → Follows g names' rows' lists' names'' rows'' lists'' mark n room r
+follows_then : {f g : Part} {names rows lists names' rows' lists' names'' rows'' lists'' : List ℕ} {mark count n room : ℕ} {r : Option ℕ}
+    → Follows f names rows lists names' rows' lists' mark count room (some n) → Follows g names' rows' lists' names'' rows'' lists'' mark n room r
     → Follows (both f g) names rows lists names'' rows'' lists'' mark count room r
 follows_then x y = record { follows = λ w. y.follows (x.follows w) }
 
 -- an answer that was taken apart
-pub follows_is : {f : Part} {names rows lists names' rows' lists' : List ℕ} {mark count room : ℕ} {r r' : Walked} → r ≡ r'
+pub follows_is : {f : Part} {names rows lists names' rows' lists' : List ℕ} {mark count room : ℕ} {r r' : Option ℕ} → r ≡ r'
     → Follows f names rows lists names' rows' lists' mark count room r → Follows f names rows lists names' rows' lists' mark count room r'
 follows_is e w = rw e at w
 
 -- a part under a new mark is the walk
-pub follows_start : {f : Part} {names rows lists names' rows' lists' : List ℕ} {mark from room : ℕ} {r : Walked} → Fresh names rows mark
+pub follows_start : {f : Part} {names rows lists names' rows' lists' : List ℕ} {mark from room : ℕ} {r : Option ℕ} → Fresh names rows mark
     → Follows f names rows lists names' rows' lists' mark from room r
     → WalksAs (f names rows (room - from) start_visit) names rows lists names' rows' lists' mark from r
 unfolding start_visit walk_answer marked_at put fold_left
@@ -188,7 +187,7 @@ follows_start {from} new w =
     let z : from ≡ from + 0 = omega arith in
     (w.follows (record {
       new = new;
-      walk = record { answer = ap walks.Names z; name_words = refl; row_words = refl; lists_words = refl };
+      walk = record { answer = ap some z; name_words = refl; row_words = refl; lists_words = refl };
       found_small = λ n i. absurd (Memᴰ.not-nil i);
       walked_small = λ n i. absurd (Memᴰ.not-nil i);
     })).walk
@@ -206,7 +205,7 @@ unfolding finish
 finish_more t v h = rw h
 
 module _ {names refs rows lists : List ℕ} {used many mark count room t : ℕ} (h : WalkReady names refs rows lists used many mark count room) (l : t < many) where
-  module _ {names₀ rows₀ lists₀ : List ℕ} {from : ℕ} {v : Visit} (w : Renders v names₀ rows₀ lists₀ names rows lists mark from (walks.Names count)) where
+  module _ {names₀ rows₀ lists₀ : List ℕ} {from : ℕ} {v : Visit} (w : Renders v names₀ rows₀ lists₀ names rows lists mark from (some count)) where
     -- the rows before the walk are a table
     table₀ : Rows refs rows₀ used many 2048
     table₀ = rows_marked (same_back (rows_as w)) h.table
@@ -236,27 +235,27 @@ module _ {names refs rows lists : List ℕ} {used many mark count room t : ℕ} 
         )
 
   -- a term with the mark
-  pub follow_there : row_mark rows t ≡ mark → Follows (term_part refs used many t) names rows lists names rows lists mark count room (walks.Names count)
+  pub follow_there : row_mark rows t ≡ mark → Follows (term_part refs used many t) names rows lists names rows lists mark count room (some count)
   follow_there e = record { follows = λ w. rw (term_there w e) w }
 
   module _ {a e : ℕ} (new : row_mark rows t ≡ mark → ⊥) (p : a ≡ row_start rows t) (q : e ≡ row_end rows used many t) where
     -- there is no room for one of the names
     term_stop : {names' rows' lists' : List ℕ} → Follows (both (head_part t)
-        (list_part refs used many a e)) names rows lists names' rows' lists' mark count room walks.Full
-        → Follows (term_part refs used many t) names rows lists names' rows' lists' mark count room walks.Full
+        (list_part refs used many a e)) names rows lists names' rows' lists' mark count room none
+        → Follows (term_part refs used many t) names rows lists names' rows' lists' mark count room none
     term_stop x = record {
       follows = λ {from} w. let y = x.follows w in rw (term_open w new p q ∙ finish_full t _ (answer_full from _ y.walk.answer)) y;
     }
 
-    module _ {names' lists' names'' rows'' lists'' : List ℕ} {n : ℕ} (x : Follows (head_part t) names rows lists names' rows lists' mark count room (walks.Names n)) where
+    module _ {names' lists' names'' rows'' lists'' : List ℕ} {n : ℕ} (x : Follows (head_part t) names rows lists names' rows lists' mark count room (some n)) where
       -- there is no room for a name of the terms that it names
-      pub follow_list_full : Follows (list_part refs used many a e) names' rows lists' names'' rows'' lists'' mark n room walks.Full
-          → Follows (term_part refs used many t) names rows lists names'' rows'' lists'' mark count room walks.Full
+      pub follow_list_full : Follows (list_part refs used many a e) names' rows lists' names'' rows'' lists'' mark n room none
+          → Follows (term_part refs used many t) names rows lists names'' rows'' lists'' mark count room none
       follow_list_full y = term_stop (follows_then x y)
 
       -- the term is marked
-      pub follow_marked : {m : ℕ} → Follows (list_part refs used many a e) names' rows lists' names'' rows'' lists'' mark n room (walks.Names m)
-          → Follows (term_part refs used many t) names rows lists names'' (set rows'' (12288 + t) mark) lists'' mark count room (walks.Names m)
+      pub follow_marked : {m : ℕ} → Follows (list_part refs used many a e) names' rows lists' names'' rows'' lists'' mark n room (some m)
+          → Follows (term_part refs used many t) names rows lists names'' (set rows'' (12288 + t) mark) lists'' mark count room (some m)
       unfolding walk_answer
       follow_marked y = record {
         follows = λ {names₀} {rows₀} {lists₀} {from} {v} w.
@@ -267,7 +266,7 @@ module _ {names refs rows lists : List ℕ} {used many mark count room t : ℕ} 
             (record {
               new = w.new;
               walk = record {
-                answer = ap walks.Names ends;
+                answer = ap some ends;
                 name_words = z.walk.name_words;
                 row_words = rw z.walk.row_words (sym (marked_more 12288 mark u.walked t rows₀));
                 lists_words = z.walk.lists_words;
@@ -280,8 +279,8 @@ module _ {names refs rows lists : List ℕ} {used many mark count room t : ℕ} 
 
   -- there is no room for the head
   pub follow_head_full : {names' lists' : List ℕ} → (row_mark rows t ≡ mark → ⊥)
-      → Follows (head_part t) names rows lists names' rows lists' mark count room walks.Full
-      → Follows (term_part refs used many t) names rows lists names' rows lists' mark count room walks.Full
+      → Follows (head_part t) names rows lists names' rows lists' mark count room none
+      → Follows (term_part refs used many t) names rows lists names' rows lists' mark count room none
   unfolding list_part
   follow_head_full new x = term_stop new refl refl (record {
     follows = λ {names₀} {rows₀} {lists₀} {from} {v} w.
@@ -295,7 +294,7 @@ module _ {names refs rows lists : List ℕ} {used many mark count room t : ℕ} 
 
 -- no term
 pub follow_nil : (refs : List ℕ) (used many a : ℕ) {names rows lists : List ℕ} {mark count room : ℕ}
-    → Follows (list_part refs used many a a) names rows lists names rows lists mark count room (walks.Names count)
+    → Follows (list_part refs used many a a) names rows lists names rows lists mark count room (some count)
 unfolding list_part terms_of_words fold_left
 follow_nil refs used many a = record { follows = λ w. rw (part_nil refs a a (omega arith)) w }
 
@@ -306,8 +305,8 @@ module _ {names refs rows lists : List ℕ} {used many mark count room a e i : �
   fits = omega (arith, g.in_use, h.table.ref_room, h.table.few_references)
 
   -- the terms up to one place and the term there are those up to the next
-  pub follow_next : {names' rows' lists' names'' rows'' lists'' : List ℕ} {n t : ℕ} {r : Walked} → t ≡ get_or refs i 0 % 4096
-      → Follows (list_part refs used many a i) names rows lists names' rows' lists' mark count room (walks.Names n)
+  pub follow_next : {names' rows' lists' names'' rows'' lists'' : List ℕ} {n t : ℕ} {r : Option ℕ} → t ≡ get_or refs i 0 % 4096
+      → Follows (list_part refs used many a i) names rows lists names' rows' lists' mark count room (some n)
       → Follows (term_part refs used many t) names' rows' lists' names'' rows'' lists'' mark n room r
       → Follows (list_part refs used many a (i + 1)) names rows lists names'' rows'' lists'' mark count room r
   unfolding list_part term_part fold_left
@@ -322,8 +321,8 @@ module _ {names refs rows lists : List ℕ} {used many mark count room a e i : �
   }
 
   -- where there is no room for the terms up to a place there is none for the list's
-  pub follow_stop : {names' rows' lists' : List ℕ} → Follows (list_part refs used many a (i + 1)) names rows lists names' rows' lists' mark count room walks.Full
-      → Follows (list_part refs used many a e) names rows lists names' rows' lists' mark count room walks.Full
+  pub follow_stop : {names' rows' lists' : List ℕ} → Follows (list_part refs used many a (i + 1)) names rows lists names' rows' lists' mark count room none
+      → Follows (list_part refs used many a e) names rows lists names' rows' lists' mark count room none
   unfolding list_part
   follow_stop x = record {
     follows = λ {names₀} {rows₀} {lists₀} {from} {v} w.
@@ -338,7 +337,7 @@ module _ {names refs rows lists : List ℕ} {used many mark count room a e i : �
   }
 
 -- the terms up to the end are the list's
-pub follow_end : {refs : List ℕ} {used many a i e : ℕ} {names rows lists names' rows' lists' : List ℕ} {mark count room : ℕ} {r : Walked}
+pub follow_end : {refs : List ℕ} {used many a i e : ℕ} {names rows lists names' rows' lists' : List ℕ} {mark count room : ℕ} {r : Option ℕ}
     → References refs used many a e → i ≤ e → e ≤ i
     → Follows (list_part refs used many a i) names rows lists names' rows' lists' mark count room r
     → Follows (list_part refs used many a e) names rows lists names' rows' lists' mark count room r

@@ -7,15 +7,14 @@ use mathlib.Core.List.{List}
 use lib.ListN.{length, get_or, set}
 use lib.Seq.{get_or-set_same, get_or-set_other}
 use Rattle.words.proofs.Slices.{same_self, same_then, same_wider, same_set}
-use Rattle.gather.specs.declared.Walked.{Walked}
-use Rattle.gather.specs.declared.Walked.TheVariants as walks
+use Rattle.std.specs.Prelude.{Option, None as none, Some as some}
 use Rattle.gather.specs.Sets.{name_mark, ended}
 use Rattle.terms.proofs.Laws.{equal}
 use Rattle.gather.specs.Walks.{MarkedListed, Comes, whole, over, Steps}
 
 module _ {P : ℕ → Type 0} {names lists : List ℕ} {mark count room : ℕ} where
   -- nothing is added: every name of the set has the mark
-  pub steps_stay : count ≤ room → ((k : ℕ) → P k → name_mark names k ≡ mark) → Steps P names lists names lists mark count room (walks.Names count)
+  pub steps_stay : count ≤ room → ((k : ℕ) → P k → name_mark names k ≡ mark) → Steps P names lists names lists mark count room (some count)
   unfolding ended
   steps_stay h all = record {
     names_same = same_self 8192 2048 names;
@@ -30,7 +29,7 @@ module _ {P : ℕ → Type 0} {names lists : List ℕ} {mark count room : ℕ} w
 
   -- nothing is added: there is no room for a name of the set
   pub steps_over : {k : ℕ} → count ≤ room → room ≤ count → P k → k < 2048 → (name_mark names k ≡ mark → ⊥)
-      → Steps P names lists names lists mark count room walks.Full
+      → Steps P names lists names lists mark count room none
   unfolding ended
   steps_over h g p l n = record {
     names_same = same_self 8192 2048 names;
@@ -100,7 +99,7 @@ module _ (names lists : List ℕ) (mark count k : ℕ) (small : k < 2048) (long 
 -- one name is added: the set's only one
 pub steps_one : {P : ℕ → Type 0} {names lists : List ℕ} {mark count room : ℕ} (k : ℕ) → k < 2048 → 16384 ≤ length names → count < room → room ≤ length lists
     → (name_mark names k ≡ mark → ⊥) → P k → ((m : ℕ) → P m → k ≡ m)
-    → Steps P names lists (set names (8192 + k) mark) (set lists count k) mark count room (walks.Names (count + 1))
+    → Steps P names lists (set names (8192 + k) mark) (set lists count k) mark count room (some (count + 1))
 unfolding ended
 steps_one {P} {names} {lists} {mark} {count} {room} k small long low high new p only =
     let same = mark_same names lists mark count k small long (omega arith) new in
@@ -117,18 +116,18 @@ steps_one {P} {names} {lists} {mark} {count} {room} k small long low high new p 
     }
 
 -- a name with the mark keeps it
-pub steps_kept : {P : ℕ → Type 0} {names lists names' lists' : List ℕ} {mark count room : ℕ} {r : Walked} → Steps P names lists names' lists' mark count room r
+pub steps_kept : {P : ℕ → Type 0} {names lists names' lists' : List ℕ} {mark count room : ℕ} {r : Option ℕ} → Steps P names lists names' lists' mark count room r
     → (k : ℕ) → k < 2048 → name_mark names k ≡ mark → name_mark names' k ≡ mark
 steps_kept s k l e = ⊎_elim (λ f. f) (λ f. f ∙ e) (s.name_marks k l)
 
 module _ {P Q : ℕ → Type 0} where
   -- what comes of a set comes of one with the same names
-  comes_as : {names : List ℕ} {mark : ℕ} {r : Walked} → ((k : ℕ) → P k → Q k) → ((k : ℕ) → Q k → P k) → Comes P names mark r → Comes Q names mark r
+  comes_as : {names : List ℕ} {mark : ℕ} {r : Option ℕ} → ((k : ℕ) → P k → Q k) → ((k : ℕ) → Q k → P k) → Comes P names mark r → Comes Q names mark r
   comes_as f g (whole a) = whole (λ k q. a k (g k q))
   comes_as f g (over p l n) = over (f _ p) l n
 
   -- the same of a set with the same names
-  pub steps_as : {names lists names' lists' : List ℕ} {mark count room : ℕ} {r : Walked} → ((k : ℕ) → P k → Q k) → ((k : ℕ) → Q k → P k)
+  pub steps_as : {names lists names' lists' : List ℕ} {mark count room : ℕ} {r : Option ℕ} → ((k : ℕ) → P k → Q k) → ((k : ℕ) → Q k → P k)
       → Steps P names lists names' lists' mark count room r → Steps Q names lists names' lists' mark count room r
   steps_as f g s = record {
     names_same = s.names_same;
@@ -142,12 +141,12 @@ module _ {P Q : ℕ → Type 0} where
   }
 
   -- a name without room is one of a larger set
-  comes_full : {names : List ℕ} {mark : ℕ} → ((k : ℕ) → P k → Q k) → Comes P names mark walks.Full → Comes Q names mark walks.Full
+  comes_full : {names : List ℕ} {mark : ℕ} → ((k : ℕ) → P k → Q k) → Comes P names mark none → Comes Q names mark none
   comes_full f (over p l n) = over (f _ p) l n
 
   -- where there is no room for a set there is none for a larger one
-  pub steps_full : {names lists names' lists' : List ℕ} {mark count room : ℕ} → ((k : ℕ) → P k → Q k) → Steps P names lists names' lists' mark count room walks.Full
-      → Steps Q names lists names' lists' mark count room walks.Full
+  pub steps_full : {names lists names' lists' : List ℕ} {mark count room : ℕ} → ((k : ℕ) → P k → Q k) → Steps P names lists names' lists' mark count room none
+      → Steps Q names lists names' lists' mark count room none
   steps_full f s = record {
     names_same = s.names_same;
     lists_same = s.lists_same;
@@ -160,15 +159,15 @@ module _ {P Q : ℕ → Type 0} where
   }
 
   -- what comes of two sets, one after the other
-  comes_more : {names names' : List ℕ} {mark n : ℕ} {r : Walked} → ((k : ℕ) → P k → k < 2048)
+  comes_more : {names names' : List ℕ} {mark n : ℕ} {r : Option ℕ} → ((k : ℕ) → P k → k < 2048)
       → ((k : ℕ) → k < 2048 → name_mark names k ≡ mark → name_mark names' k ≡ mark)
-      → Comes P names mark (walks.Names n) → Comes Q names' mark r → Comes (λ k. P k ⊎ Q k) names' mark r
+      → Comes P names mark (some n) → Comes Q names' mark r → Comes (λ k. P k ⊎ Q k) names' mark r
   comes_more b kept (whole a) (whole c) = whole (λ k s. ⊎_elim (λ p. kept k (b k p) (a k p)) (c k) s)
   comes_more b kept (whole a) (over q l n) = over (inr q) l n
 
   -- one set after another
-  pub steps_then : {names lists names' lists' names'' lists'' : List ℕ} {mark count n room : ℕ} {r : Walked} → ((k : ℕ) → P k → k < 2048)
-      → Steps P names lists names' lists' mark count room (walks.Names n) → Steps Q names' lists' names'' lists'' mark n room r
+  pub steps_then : {names lists names' lists' names'' lists'' : List ℕ} {mark count n room : ℕ} {r : Option ℕ} → ((k : ℕ) → P k → k < 2048)
+      → Steps P names lists names' lists' mark count room (some n) → Steps Q names' lists' names'' lists'' mark n room r
       → Steps (λ k. P k ⊎ Q k) names lists names'' lists'' mark count room r
   unfolding ended
   steps_then {count} {n} {room} {r} b s t =

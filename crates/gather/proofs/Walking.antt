@@ -9,8 +9,7 @@ use lib.ListN.{length, get_or, set}
 use lib.Seq.{get_or-set_same, get_or-set_other}
 use lib.Dec.{T, ltb}
 use borrow.Author.Tests.{ltb-true}
-use Rattle.gather.specs.declared.Walked.{Walked}
-use Rattle.gather.specs.declared.Walked.TheVariants as walks
+use Rattle.std.specs.Prelude.{Option, None as none, Some as some}
 use Rattle.terms.specs.Rows.{row_kind, row_head, row_start, row_extra, row_end, has_body, bare_of, Rows}
 use Rattle.words.specs.Slices.{SameBut}
 use Rattle.names.specs.Table.{is_excluded}
@@ -137,7 +136,7 @@ closed_more {rows} r s kept c = record {
 }
 
 -- a change of names alone is a walk
-pub walks_names : {P : ℕ → Type 0} {names refs rows lists names' lists' : List ℕ} {used many mark count room : ℕ} {r : Walked}
+pub walks_names : {P : ℕ → Type 0} {names refs rows lists names' lists' : List ℕ} {used many mark count room : ℕ} {r : Option ℕ}
     → WalkReady names refs rows lists used many mark count room → Steps P names lists names' lists' mark count room r
     → Walks P names refs rows lists names' rows lists' used many mark count room r
 walks_names {rows} h s = record {
@@ -150,17 +149,17 @@ walks_names {rows} h s = record {
 -- a term with the mark adds nothing
 pub walks_there : {names refs rows lists : List ℕ} {used many mark count room t : ℕ} → WalkReady names refs rows lists used many mark count room → t < many
     → row_mark rows t ≡ mark
-    → Walks (Free names refs rows used many t) names refs rows lists names rows lists used many mark count room (walks.Names count)
+    → Walks (Free names refs rows used many t) names refs rows lists names rows lists used many mark count room (some count)
 walks_there {t} h l e = walks_names h (steps_stay h.low (λ k f. h.closed.marked t k l e f))
 
 -- no term adds nothing
 pub walks_none : {names refs rows lists : List ℕ} {used many mark count room a : ℕ} → WalkReady names refs rows lists used many mark count room
-    → Walks (Among names refs rows used many a a) names refs rows lists names rows lists used many mark count room (walks.Names count)
+    → Walks (Among names refs rows used many a a) names refs rows lists names rows lists used many mark count room (some count)
 walks_none h = walks_names h (steps_stay h.low (λ k m. let l = m.low in let g = m.high in omega arith))
 
 -- the slices after a walk are ready for another
 pub ready_then : {P : ℕ → Type 0} {names refs rows lists names' rows' lists' : List ℕ} {used many mark count room n : ℕ}
-    → WalkReady names refs rows lists used many mark count room → Walks P names refs rows lists names' rows' lists' used many mark count room (walks.Names n)
+    → WalkReady names refs rows lists used many mark count room → Walks P names refs rows lists names' rows' lists' used many mark count room (some n)
     → WalkReady names' refs rows' lists' used many mark n room
 unfolding ended
 ready_then h w = record {
@@ -173,18 +172,18 @@ ready_then h w = record {
 
 module _ {P Q : ℕ → Type 0} {names refs rows lists names' rows' lists' : List ℕ} {used many mark count room : ℕ} where
   -- where there is no room for a set there is none for a larger one
-  pub walks_full : ((k : ℕ) → P k → Q k) → Walks P names refs rows lists names' rows' lists' used many mark count room walks.Full
-      → Walks Q names refs rows lists names' rows' lists' used many mark count room walks.Full
+  pub walks_full : ((k : ℕ) → P k → Q k) → Walks P names refs rows lists names' rows' lists' used many mark count room none
+      → Walks Q names refs rows lists names' rows' lists' used many mark count room none
   walks_full f w = record { steps = steps_full f w.steps; rows_same = w.rows_same; row_marks = w.row_marks; closed = w.closed }
 
   -- the same of a set with the same names
-  pub walks_as : {r : Walked} → ((k : ℕ) → P k → Q k) → ((k : ℕ) → Q k → P k) → Walks P names refs rows lists names' rows' lists' used many mark count room r
+  pub walks_as : {r : Option ℕ} → ((k : ℕ) → P k → Q k) → ((k : ℕ) → Q k → P k) → Walks P names refs rows lists names' rows' lists' used many mark count room r
       → Walks Q names refs rows lists names' rows' lists' used many mark count room r
   walks_as f g w = record { steps = steps_as f g w.steps; rows_same = w.rows_same; row_marks = w.row_marks; closed = w.closed }
 
   -- one walk after another
-  pub walks_then : {names'' rows'' lists'' : List ℕ} {n : ℕ} {r : Walked} → ((k : ℕ) → P k → k < 2048)
-      → Walks P names refs rows lists names' rows' lists' used many mark count room (walks.Names n)
+  pub walks_then : {names'' rows'' lists'' : List ℕ} {n : ℕ} {r : Option ℕ} → ((k : ℕ) → P k → k < 2048)
+      → Walks P names refs rows lists names' rows' lists' used many mark count room (some n)
       → Walks Q names' refs rows' lists' names'' rows'' lists'' used many mark n room r
       → Walks (λ k. P k ⊎ Q k) names refs rows lists names'' rows'' lists'' used many mark count room r
   walks_then b v w = record {
@@ -195,13 +194,13 @@ module _ {P Q : ℕ → Type 0} {names refs rows lists names' rows' lists' : Lis
   }
 
 -- the marks of a walk's names that is whole
-comes_whole : {P : ℕ → Type 0} {names : List ℕ} {mark n : ℕ} → Comes P names mark (walks.Names n) → (k : ℕ) → P k → name_mark names k ≡ mark
+comes_whole : {P : ℕ → Type 0} {names : List ℕ} {mark n : ℕ} → Comes P names mark (some n) → (k : ℕ) → P k → name_mark names k ≡ mark
 comes_whole (whole a) = a
 
 -- the terms up to one place and the term there are those up to the next
-pub walks_next : {names refs rows lists names' rows' lists' names'' rows'' lists'' : List ℕ} {used many mark count room n a e i t : ℕ} {r : Walked}
+pub walks_next : {names refs rows lists names' rows' lists' names'' rows'' lists'' : List ℕ} {used many mark count room n a e i t : ℕ} {r : Option ℕ}
     → WalkReady names refs rows lists used many mark count room → References refs used many a e → a ≤ i → i < e → t ≡ get_or refs i 0 % 4096
-    → Walks (Among names refs rows used many a i) names refs rows lists names' rows' lists' used many mark count room (walks.Names n)
+    → Walks (Among names refs rows used many a i) names refs rows lists names' rows' lists' used many mark count room (some n)
     → Walks (Free names' refs rows' used many t) names' refs rows' lists' names'' rows'' lists'' used many mark n room r
     → Walks (Among names refs rows used many a (i + 1)) names refs rows lists names'' rows'' lists'' used many mark count room r
 walks_next {names} {refs} {rows} {names'} {rows'} {used} {many} {a} {e} {i} {t} h g low high is v w =
@@ -227,9 +226,9 @@ walks_next {names} {refs} {rows} {names'} {rows'} {used} {many} {a} {e} {i} {t} 
         (equal m.place i)
 
 -- the head of a term and the terms that it names are the term
-pub walks_term : {names refs rows lists names' lists' names'' rows'' lists'' : List ℕ} {used many mark count room n t a e : ℕ} {r : Walked}
+pub walks_term : {names refs rows lists names' lists' names'' rows'' lists'' : List ℕ} {used many mark count room n t a e : ℕ} {r : Option ℕ}
     → WalkReady names refs rows lists used many mark count room → a ≡ row_start rows t → e ≡ row_end rows used many t
-    → Steps (Own names rows t) names lists names' lists' mark count room (walks.Names n)
+    → Steps (Own names rows t) names lists names' lists' mark count room (some n)
     → Walks (Among names' refs rows used many a e) names' refs rows lists' names'' rows'' lists'' used many mark n room r
     → Walks (Free names refs rows used many t) names refs rows lists names'' rows'' lists'' used many mark count room r
 walks_term {names} {refs} {rows} {names'} {used} {many} {t} {a} {e} h p q v w =
@@ -255,15 +254,15 @@ walks_term {names} {refs} {rows} {names'} {used} {many} {t} {a} {e} h p q v w =
 
 -- where there is no room for a head there is none for its term's names
 pub walks_head_full : {names refs rows lists names' lists' : List ℕ} {used many mark count room t : ℕ}
-    → WalkReady names refs rows lists used many mark count room → Steps (Own names rows t) names lists names' lists' mark count room walks.Full
-    → Walks (Free names refs rows used many t) names refs rows lists names' rows lists' used many mark count room walks.Full
+    → WalkReady names refs rows lists used many mark count room → Steps (Own names rows t) names lists names' lists' mark count room none
+    → Walks (Free names refs rows used many t) names refs rows lists names' rows lists' used many mark count room none
 walks_head_full {t} h v = walks_names h (steps_full (λ k m. record { occurs = own {t = t} m.headed m.is; counts = m.counts }) v)
 
 -- a term is marked once its names are
 pub walks_marked : {names refs rows lists names' rows' lists' : List ℕ} {used many mark count room n t : ℕ}
     → WalkReady names refs rows lists used many mark count room → t < many
-    → Walks (Free names refs rows used many t) names refs rows lists names' rows' lists' used many mark count room (walks.Names n)
-    → Walks (Free names refs rows used many t) names refs rows lists names' (set rows' (12288 + t) mark) lists' used many mark count room (walks.Names n)
+    → Walks (Free names refs rows used many t) names refs rows lists names' rows' lists' used many mark count room (some n)
+    → Walks (Free names refs rows used many t) names refs rows lists names' (set rows' (12288 + t) mark) lists' used many mark count room (some n)
 walks_marked {names} {refs} {rows} {names'} {rows'} {used} {many} {mark} {t} h l w = record {
   steps = w.steps;
   rows_same = same_then w.rows_same s;
@@ -346,24 +345,24 @@ pub in_table_at : {refs : List ℕ} {used many a e i t : ℕ} → References ref
 in_table_at {i} g l h is = rw is (g.in_table i l h)
 
 -- an answer that was taken apart
-pub walks_is : {P : ℕ → Type 0} {names refs rows lists names' rows' lists' : List ℕ} {used many mark count room : ℕ} {r r' : Walked}
+pub walks_is : {P : ℕ → Type 0} {names refs rows lists names' rows' lists' : List ℕ} {used many mark count room : ℕ} {r r' : Option ℕ}
     → r ≡ r' → Walks P names refs rows lists names' rows' lists' used many mark count room r
     → Walks P names refs rows lists names' rows' lists' used many mark count room r'
 walks_is e w = rw e at w
 
 -- the same of a step
-pub steps_is : {P : ℕ → Type 0} {names lists names' lists' : List ℕ} {mark count room : ℕ} {r r' : Walked} → r ≡ r'
+pub steps_is : {P : ℕ → Type 0} {names lists names' lists' : List ℕ} {mark count room : ℕ} {r r' : Option ℕ} → r ≡ r'
     → Steps P names lists names' lists' mark count room r → Steps P names lists names' lists' mark count room r'
 steps_is e w = rw e at w
 
 -- where there is no room for the terms up to a place there is none for the list's
 pub walks_stop : {names refs rows lists names' rows' lists' : List ℕ} {used many mark count room a i e : ℕ} → i < e
-    → Walks (Among names refs rows used many a (i + 1)) names refs rows lists names' rows' lists' used many mark count room walks.Full
-    → Walks (Among names refs rows used many a e) names refs rows lists names' rows' lists' used many mark count room walks.Full
+    → Walks (Among names refs rows used many a (i + 1)) names refs rows lists names' rows' lists' used many mark count room none
+    → Walks (Among names refs rows used many a e) names refs rows lists names' rows' lists' used many mark count room none
 walks_stop l w = walks_full (λ k m. let h = m.high in record { place = m.place; low = m.low; high = omega arith; free = m.free }) w
 
 -- the terms up to the end are the list's
-pub walks_end : {names refs rows lists names' rows' lists' : List ℕ} {used many mark count room a i e : ℕ} {r : Walked} → i ≤ e → e ≤ i
+pub walks_end : {names refs rows lists names' rows' lists' : List ℕ} {used many mark count room a i e : ℕ} {r : Option ℕ} → i ≤ e → e ≤ i
     → Walks (Among names refs rows used many a i) names refs rows lists names' rows' lists' used many mark count room r
     → Walks (Among names refs rows used many a e) names refs rows lists names' rows' lists' used many mark count room r
 walks_end {i} {e} l h w =

@@ -6,8 +6,7 @@ use Rattle.model.specs.Names.{Name, from_list, mem}
 use Rattle.model.specs.Reading.{most_names, most_terms}
 use Rattle.words.specs.Slices.{SameBut}
 use Rattle.names.specs.Table.{is_excluded}
-use Rattle.gather.specs.declared.Walked.{Walked}
-use Rattle.gather.specs.declared.Walked.TheVariants as walks
+use Rattle.std.specs.Prelude.{Option, None as none, Some as some}
 
 -- the columns of marks, by their first word: by name, and by row
 abbrev pub name_mark_column : ℕ
@@ -35,24 +34,24 @@ pub record Named (exclude : List Name) (name : ℕ → Name) (names : List ℕ) 
   pub excluded : (n : ℕ) → n < named → is_excluded names n ≡ mem (name n) exclude
 
 -- where the names end after gathering: at the room's end where there is no room for all
-unfoldable pub ended : ℕ → Walked → ℕ
-ended room (walks.Names n) = n
-ended room walks.Full = room
+unfoldable pub ended : ℕ → Option ℕ → ℕ
+ended room (some n) = n
+ended room none = room
 
 -- what gathering a set of names into a slice from `at` on comes to, where there is room up to `room`: the numbers of its
 -- names, each once and each below `named`, or numbers of some of its names and that there are more than fit
-pub data Gathers (name : ℕ → Name) (named : ℕ) (set : List Name) (at room : ℕ) (lists : List ℕ) : Walked → Type 0 where
+pub data Gathers (name : ℕ → Name) (named : ℕ) (set : List Name) (at room : ℕ) (lists : List ℕ) : Option ℕ → Type 0 where
   all_names : {n : ℕ}
       → from_list (map name (part lists at n)) ≡ set → length set + at ≡ n → n ≤ room
       → ((i : ℕ) → at ≤ i → i < n → get_or lists i 0 < named)
-      → Gathers name named set at room lists (walks.Names n)
+      → Gathers name named set at room lists (some n)
   no_room : room < length set + at
       → ((i : ℕ) → at ≤ i → i < room → (get_or lists i 0 < named) × T (mem (name (get_or lists i 0)) set))
-      → Gathers name named set at room lists walks.Full
+      → Gathers name named set at room lists none
 
 -- the slices after gathering: in the tables only marks change, each to the set's or not at all; in `lists` only the places of
 -- the numbers, within the room; the names with the set's mark are those in `lists`
-pub record Gathered (names rows lists names' rows' lists' : List ℕ) (mark at room : ℕ) (r : Walked) : Type 0 where
+pub record Gathered (names rows lists names' rows' lists' : List ℕ) (mark at room : ℕ) (r : Option ℕ) : Type 0 where
   pub names_same : SameBut name_mark_column most_names names names'
   pub rows_same : SameBut row_mark_column most_terms rows rows'
   pub lists_same : SameBut at (ended room r - at) lists lists'

@@ -4,8 +4,7 @@ use Rattle.model.specs.Lists.{any, fold_left, part}
 use Rattle.terms.specs.Rows.{row_kind, row_head, row_start, row_end, has_head, terms_of_words}
 use Rattle.names.specs.Table.{is_excluded}
 use Rattle.gather.specs.Sets.{name_mark_column, row_mark_column}
-use Rattle.gather.specs.declared.Walked.{Walked}
-use Rattle.gather.specs.declared.Walked.TheVariants as walks
+use Rattle.std.specs.Prelude.{Option, None as none, Some as some}
 
 -- how far a walk is: the numbers of the names found, the terms walked to their end, and whether a name had no room
 pub record Visit : Type 0 where
@@ -57,8 +56,8 @@ module _ (names refs rows : List ℕ) (used many room : ℕ) where
   visit_list ts = fold_left (visit_below many) start_visit ts
 
 -- what a walk comes to, where the first name goes to the place `at`
-unfoldable pub walk_answer : ℕ → Visit → Walked
-walk_answer at v = cond v.full walks.Full (walks.Names (at + length v.found))
+unfoldable pub walk_answer : ℕ → Visit → Option ℕ
+walk_answer at v = cond v.full none (some (at + length v.found))
 
 -- a slice with a mark at these numbers of a column
 unfoldable pub marked_at : ℕ → ℕ → List ℕ → List ℕ → List ℕ
@@ -70,7 +69,7 @@ put at [] slice = slice
 put at (n ∷ ns) slice = put (at + 1) ns (set slice at n)
 
 -- the answer and every word of the slices after a walk
-pub record WalksAs (v : Visit) (names rows lists names' rows' lists' : List ℕ) (mark at : ℕ) (r : Walked) : Type 0 where
+pub record WalksAs (v : Visit) (names rows lists names' rows' lists' : List ℕ) (mark at : ℕ) (r : Option ℕ) : Type 0 where
   pub answer : r ≡ walk_answer at v
   pub name_words : names' ≡ marked_at name_mark_column mark v.found names
   pub row_words : rows' ≡ marked_at row_mark_column mark v.walked rows

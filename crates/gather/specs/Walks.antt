@@ -4,8 +4,7 @@ use mathlib.Core.List.{List, [], Memᴰ}
 use Rattle.model.specs.Lists.{fold_left, part}
 use Rattle.model.specs.Reading.{most_names, most_terms}
 use Rattle.model.specs.Outcome.{working_words}
-use Rattle.gather.specs.declared.Walked.{Walked}
-use Rattle.gather.specs.declared.Walked.TheVariants as walks
+use Rattle.std.specs.Prelude.{Option, None as none, Some as some}
 use Rattle.terms.specs.Rows.{term_of, row_kind, row_head, row_start, row_end, has_head, terms_of_words, Rows}
 use Rattle.words.specs.Slices.{SameBut}
 use Rattle.names.specs.Table.{is_excluded}
@@ -82,12 +81,12 @@ pub record MarkedListed (names lists : List ℕ) (mark from n : ℕ) : Type 0 wh
   pub once : (i j : ℕ) → from ≤ i → i < j → j < n → get_or lists i 0 ≡ get_or lists j 0 → ⊥
 
 -- all names of the set are marked, or there is no room for one of them
-pub data Comes (P : ℕ → Type 0) (names : List ℕ) (mark : ℕ) : Walked → Type 0 where
-  whole : {n : ℕ} → ((k : ℕ) → P k → name_mark names k ≡ mark) → Comes P names mark (walks.Names n)
-  over : {k : ℕ} → P k → k < most_names → (name_mark names k ≡ mark → ⊥) → Comes P names mark walks.Full
+pub data Comes (P : ℕ → Type 0) (names : List ℕ) (mark : ℕ) : Option ℕ → Type 0 where
+  whole : {n : ℕ} → ((k : ℕ) → P k → name_mark names k ≡ mark) → Comes P names mark (some n)
+  over : {k : ℕ} → P k → k < most_names → (name_mark names k ≡ mark → ⊥) → Comes P names mark none
 
 -- what adding the names of a set comes to
-pub record Steps (P : ℕ → Type 0) (names lists names' lists' : List ℕ) (mark count room : ℕ) (r : Walked) : Type 0 where
+pub record Steps (P : ℕ → Type 0) (names lists names' lists' : List ℕ) (mark count room : ℕ) (r : Option ℕ) : Type 0 where
   pub names_same : SameBut name_mark_column most_names names names'
   pub lists_same : SameBut count (ended room r - count) lists lists'
   pub name_marks : (k : ℕ) → k < most_names → (name_mark names' k ≡ mark) ⊎ (name_mark names' k ≡ name_mark names k)
@@ -98,7 +97,7 @@ pub record Steps (P : ℕ → Type 0) (names lists names' lists' : List ℕ) (ma
   pub comes : Comes P names' mark r
 
 -- what a walk comes to
-pub record Walks (P : ℕ → Type 0) (names refs rows lists names' rows' lists' : List ℕ) (used many mark count room : ℕ) (r : Walked) : Type 0 where
+pub record Walks (P : ℕ → Type 0) (names refs rows lists names' rows' lists' : List ℕ) (used many mark count room : ℕ) (r : Option ℕ) : Type 0 where
   pub steps : Steps P names lists names' lists' mark count room r
   pub rows_same : SameBut row_mark_column most_terms rows rows'
   pub row_marks : (t : ℕ) → t < most_terms → (row_mark rows' t ≡ mark) ⊎ (row_mark rows' t ≡ row_mark rows t)
@@ -121,13 +120,13 @@ unfoldable pub list_part : List ℕ → ℕ → ℕ → ℕ → ℕ → Part
 list_part refs used many a e names rows room v = fold_left (visit_below names refs rows used many room many) v (terms_of_words (part refs a e))
 
 -- the slices are those of a walk under a new mark, and its numbers are those of names and of rows
-pub record Renders (v : Visit) (names rows lists names' rows' lists' : List ℕ) (mark from : ℕ) (r : Walked) : Type 0 where
+pub record Renders (v : Visit) (names rows lists names' rows' lists' : List ℕ) (mark from : ℕ) (r : Option ℕ) : Type 0 where
   pub new : Fresh names rows mark
   pub walk : WalksAs v names rows lists names' rows' lists' mark from r
   pub found_small : (n : ℕ) → Memᴰ n v.found → n < most_names
   pub walked_small : (t : ℕ) → Memᴰ t v.walked → t < most_terms
 
 -- slices of a walk come to those of the walk with this part more
-pub record Follows (part : Part) (names rows lists names' rows' lists' : List ℕ) (mark count room : ℕ) (r : Walked) : Type 0 where
-  pub follows : {names₀ rows₀ lists₀ : List ℕ} {from : ℕ} {v : Visit} → Renders v names₀ rows₀ lists₀ names rows lists mark from (walks.Names count)
+pub record Follows (part : Part) (names rows lists names' rows' lists' : List ℕ) (mark count room : ℕ) (r : Option ℕ) : Type 0 where
+  pub follows : {names₀ rows₀ lists₀ : List ℕ} {from : ℕ} {v : Visit} → Renders v names₀ rows₀ lists₀ names rows lists mark from (some count)
       → Renders (part names₀ rows₀ (room - from) v) names₀ rows₀ lists₀ names' rows' lists' mark from r

@@ -15,14 +15,11 @@ pub const NAME_MARK: usize = 8192;
 
 pub const ROW_MARK: usize = 12288;
 
-// What gathering names comes to: where the names end in the slice, or that there is no room for them.
-#[derive(Clone, Copy)]
-pub enum Walked {
-    Names(usize),
-    Full,
-}
+// The slices that are written stay parameters here: as fields of one struct each that a function leaves alone wants a clause of
+// its own.
 
-// Adds the head name of a term, unless it has none, the name is excluded, or it is there already.
+// Adds the head name of a term, unless it has none, the name is excluded, or it is there already. As in every function here,
+// the answer is where the names end in the slice, or none where there is no room for them.
 fn gather_head(
     names: &mut [u32],
     rows: &[u32],
@@ -31,7 +28,7 @@ fn gather_head(
     mark: u32,
     count: usize,
     room: usize,
-) -> Walked
+) -> Option<usize>
     requires { Heads names.old rows.now lists.old t count room }
     ensures set { Steps (Own names.old rows.now t) names.old lists.old
         names.new lists.new mark count room result }
@@ -39,21 +36,21 @@ fn gather_head(
         rows.now lists.new mark count room result }
 {
     if !terms::has_head(rows, t) {
-        return Walked::Names(count);
+        return Some(count);
     }
     let n = terms::head(rows, t);
     if names::is_excluded(names, n) {
-        return Walked::Names(count);
+        return Some(count);
     }
     if words::at(names, NAME_MARK + n) == mark as usize {
-        return Walked::Names(count);
+        return Some(count);
     }
     if room <= count {
-        return Walked::Full;
+        return None;
     }
     lists[count] = n as u32;
     names[NAME_MARK + n] = mark;
-    Walked::Names(count + 1)
+    Some(count + 1)
 }
 
 // Adds the free names of a term that has no mark: its head's, then those of the terms that it names. The term is marked
@@ -70,7 +67,7 @@ fn walk_term(
     mark: u32,
     count: usize,
     room: usize,
-) -> Walked
+) -> Option<usize>
     requires { WalkReady names.old refs.now rows.old lists.old used many mark count room × (t < many)
         × (row_mark rows.old t ≡ mark → ⊥) }
     ensures set { Walks (Free names.old refs.now rows.old used many t)
@@ -79,17 +76,12 @@ fn walk_term(
     ensures walk { Follows (term_part refs.now used many t) names.old rows.old
         lists.old names.new rows.new lists.new mark count room result }
 {
-    let Walked::Names(own) = gather_head(names, rows, lists, t, mark, count, room) else {
-        return Walked::Full;
-    };
+    let own = gather_head(names, rows, lists, t, mark, count, room)?;
     let a = terms::start(rows, t);
     let e = terms::end(rows, used, many, t);
-    let Walked::Names(n) = walk_list(names, refs, rows, lists, used, many, a, e, mark, own, room)
-    else {
-        return Walked::Full;
-    };
+    let n = walk_list(names, refs, rows, lists, used, many, a, e, mark, own, room)?;
     rows[ROW_MARK + t] = mark;
-    Walked::Names(n)
+    Some(n)
 }
 
 // Adds the free names of the terms that the references from `a` up to `e` name. A term with the mark is not walked again.
@@ -106,7 +98,7 @@ fn walk_list(
     mark: u32,
     count: usize,
     room: usize,
-) -> Walked
+) -> Option<usize>
     requires { WalkReady names.old refs.now rows.old lists.old used many mark count room
         × References refs.now used many a e }
     ensures set { Walks (Among names.old refs.now rows.old used many a e)
@@ -115,24 +107,19 @@ fn walk_list(
     ensures walk { Follows (list_part refs.now used many a e) names.old rows.old
         lists.old names.new rows.new lists.new mark count room result }
 {
-    let mut i = a;
     let mut n = count;
-    while i < e {
+    for i in a..e {
         let t = terms::reference(refs, i);
-        i += 1;
         if words::at(rows, ROW_MARK + t) == mark as usize {
             continue;
         }
-        let Walked::Names(more) = walk_term(names, refs, rows, lists, used, many, t, mark, n, room)
-        else {
-            return Walked::Full;
-        };
-        n = more;
+        n = walk_term(names, refs, rows, lists, used, many, t, mark, n, room)?;
     }
-    Walked::Names(n)
+    Some(n)
 }
 
-// Gathers the free names of a term into `lists` from `from` on, up to `room`, under a mark that no row and no name has yet.
+// Gathers the free names of a term into `lists` from `from` on, up to `room`, under a mark that no row and no name has yet: the
+// walk, with what it comes to in sets of names.
 pub fn gather_term(
     names: &mut [u32],
     refs: &[u32],
@@ -145,7 +132,7 @@ pub fn gather_term(
     mark: u32,
     from: usize,
     room: usize,
-) -> Walked
+) -> Option<usize>
     requires { Rows refs.now rows.old used many named × (working_words ≤ length names.old) × (t < many)
         × Fresh names.old rows.old mark × (from ≤ room) × (room ≤ length lists.old) }
     ensures set { (exclude : List Name) (name : ℕ → Name) → Named exclude name names.old named
@@ -174,7 +161,7 @@ pub fn gather_list(
     mark: u32,
     from: usize,
     room: usize,
-) -> Walked
+) -> Option<usize>
     requires { Rows refs.now rows.old used many named × (working_words ≤ length names.old) × (a ≤ e) × (e ≤ used)
         × ((i : ℕ) → a ≤ i → i < e → term_of (get_or refs.now i 0) < many) × Fresh names.old rows.old mark × (from ≤ room)
         × (room ≤ length lists.old) }

@@ -1,7 +1,6 @@
 -- The macro column of the names: 0 where the name is no macro; the record of its def and one; or, for one of the five macros of
 -- the start that no def replaces, `opened_word` and the number of the name that it opens to, 0 where the table has no such name.
 use Rattle.std.specs.Prelude.{ℕ, zero, suc, ◌+◌, ◌-◌, ◌<◌, ◌≡◌, Bool, cond, ◌&&◌, List, [], ◌∷◌, eqb, leb, ltb, length, get_or}
-use Rattle.model.specs.Reading.{most_names}
 use Rattle.model.specs.declared.Counts.{Counts}
 use Rattle.names.specs.Table.{Table, name_code}
 use Rattle.words.specs.Slices.{SameBut}

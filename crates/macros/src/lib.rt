@@ -25,18 +25,15 @@ fn find_opened(names: &[u32], named: usize, found: &mut [u32])
         × ((j : ℕ) → get_or found.old j 0 ≡ 0) }
     ensures { Found names.now named found.new }
 {
-    let mut n = 0;
-    while n < named {
-        let k = n;
-        n += 1;
-        let c = names::code_at(names, k);
+    for n in 0..named {
+        let c = names::code_at(names, n);
         if c < FIRST_OPENED {
             continue;
         }
         if PAST_OPENED <= c {
             continue;
         }
-        found[c - FIRST_OPENED] = n as u32;
+        found[c - FIRST_OPENED] = (n + 1) as u32;
     }
 }
 
@@ -90,13 +87,10 @@ pub fn open_macros(names: &mut [u32], recs: &[u32], named: usize)
         × ((n : ℕ) → n < named → taken_at names.old n ≤ most_records) }
     ensures { MacrosOpened names.old recs.now names.new named named }
 {
-    let mut found: [u32; 5] = [0; 5];
+    let mut found = [0; MACRO_COUNT];
     find_opened(names, named, &mut found);
-    let mut n = 0;
-    while n < named {
-        let k = n;
-        n += 1;
-        let word = macro_word(names, recs, &found, k);
-        names[records::MACRO + k] = word as u32;
+    for n in 0..named {
+        let word = macro_word(names, recs, &found, n);
+        names[records::MACRO + n] = word as u32;
     }
 }

@@ -1,6 +1,5 @@
 -- Document 02, Change 2: the call that fills a lent table of rows, for the ask or also line at a position (Changes 7 and 11).
-use Rattle.std.specs.Prelude.{ℕ, zero, suc, List, [], ◌∷◌, ◌++◌, length, drop}
-use Rattle.std.proofs.Math.Option.{Option, none, some}
+use Rattle.std.specs.Prelude.{ℕ, zero, suc, List, [], ◌∷◌, ◌++◌, length, drop, Option, None as none, Some as some}
 use Rattle.model.specs.Reading.{Ask, State}
 use Rattle.model.specs.Outcome.{Lent, Front, stopped, opened, front}
 use Rattle.model.specs.Reasons.{rows, met_number}

@@ -1,6 +1,5 @@
 -- Document 02, Change 9: what must come before what, as the rows of a check over all def lines.
-use Rattle.std.specs.Prelude.{ℕ, cond, List, ◌++◌, leb}
-use Rattle.std.proofs.Math.Option.{Option, some}
+use Rattle.std.specs.Prelude.{ℕ, cond, List, ◌++◌, leb, Option, Some as some}
 use Rattle.model.specs.Lists.{any, keep, collect, is_nil, to_list, when, ◌>>=◌}
 use Rattle.model.specs.Names.{Name, same, name_number}
 use Rattle.model.specs.Reading.{Decl, Summary, State}

@@ -1,15 +1,15 @@
 -- Reading a file, line after line: document 01, "The file" and "Who can cause a refusal", the refusals 1 to 6;
 -- document 02, Change 1: 10 to 12, Change 6: hide lines, Change 7: several ask lines, 13, Change 8: options up to 15,
 -- Change 11: also lines, Change 13: the form with groups.
-use Rattle.std.specs.Prelude.{ℕ, zero, suc, ◌+◌, ◌/◌, ◌%◌, Bool, true, false, cond, not, ◌&&◌, ◌||◌, List, [], ◌∷◌, ◌++◌, map, length, leb, ltb, eqb}
+use Rattle.std.specs.Prelude.{ℕ, zero, suc, ◌+◌, ◌/◌, ◌%◌, Bool, true, false, cond, not, ◌&&◌, ◌||◌, List, [], ◌∷◌, ◌++◌, map, length, leb, ltb, eqb, Option, None as none, Some as some, Result as Answer}
 use Prim.Native.String.{String}
 use Rattle.std.specs.Bool.{beq}
-use Rattle.std.proofs.Math.Option.{Option, none, some}
 use Rattle.model.specs.Lists.{any, sum, collect, fold_left, is_nil, holds, last}
 use Rattle.model.specs.Names.{Name, bytes, same, mem}
 use Rattle.model.specs.Lines.{Line, lines, Field, fields, is_name, number}
 use Rattle.model.specs.Terms.{Node, free_v, leaf, call, app, forall, exists, let_in, labeled, Term, add_term, references}
 use Rattle.model.specs.Summaries.{Fact, entries, free_top_level_names, summarize_kind, summarize_assumption}
+pub use Rattle.std.specs.Prelude.{Ok as ok, Err as refused}
 use Rattle.model.specs.declared.LineKind.{LineKind}
 use Rattle.model.specs.declared.LineKind.TheVariants as kind
 use Rattle.model.specs.declared.Op.{Op}
@@ -18,9 +18,8 @@ use Rattle.model.specs.declared.Refusal.{Refusal}
 use Rattle.model.specs.declared.Refusal.TheVariants as refusal
 
 -- a value, or why there is none
-pub data Result (A : Type 0) : Type 0 where
-  ok : A → Result A
-  refused : Refusal → Result A
+abbrev pub Result : Type 0 → Type 0
+Result A = Answer A Refusal
 
 module _ {A B : Type 0} where
   infixl 20 ◌>>=◌

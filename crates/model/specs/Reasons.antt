@@ -1,6 +1,5 @@
 -- Document 02, Change 2: why each fact came along; on an also line the reasons of the fresh run over all queries of its chain.
-use Rattle.std.specs.Prelude.{ℕ, Bool, cond, ◌&&◌, ◌||◌, List, [], ◌∷◌, ◌++◌, map, ltb, eqb}
-use Rattle.std.proofs.Math.Option.{Option, none, some}
+use Rattle.std.specs.Prelude.{ℕ, Bool, cond, ◌&&◌, ◌||◌, List, [], ◌∷◌, ◌++◌, map, ltb, eqb, Option, None as none, Some as some}
 use Rattle.model.specs.Lists.{keep, count, collect, fold_left, to_list}
 use Rattle.model.specs.Names.{Name, mem, from_list, name_number}
 use Rattle.model.specs.Summaries.{Fact}

@@ -1,7 +1,7 @@
 -- Document 01, "Firing" and "Rounds": names met, firing, the rounds of a run and its visits. Document 02, Change 13: the
 -- background of an ask.
 use Rattle.std.specs.Prelude.{ℕ, zero, suc, ◌+◌, ◌/◌, ◌%◌, ◌^◌, Bool, true, false, cond, not, ◌&&◌, ◌||◌, List, [], ◌∷◌, ◌++◌, map, length, get_or, eqb}
-use Rattle.std.proofs.Math.Option
+use Rattle.std.specs.Option as Option
 use Rattle.model.specs.Lists.{any, all, keep, count, find_index, concat, collect, is_nil}
 use Rattle.model.specs.Names.{Name, mem, from_list, union}
 use Rattle.model.specs.Summaries.{Fact}
@@ -55,7 +55,7 @@ macros decls = map (λ d. (d.name, d.free_names)) (definitions decls) ++ init_ma
 
 -- the names met from items with these free names: a macro is opened one level
 unfoldable pub met_from : Map (List Name) → List Name → List Name
-met_from ms names = from_list (names ++ collect (λ n. Option.get_or (try_find ms n) []) names)
+met_from ms names = from_list (names ++ collect (λ n. Option.unwrap_or (try_find ms n) []) names)
 
 -- the listed names of a fact, one for each of its filed trigger entries
 unfoldable pub listed : Fact → List Name

@@ -3,23 +3,24 @@
 // Why a file or a call is refused. The number of each in documents 01 and 02 is `refusal_number` of specs/Outcome.antt.
 #[derive(Clone, Copy)]
 pub enum Refusal {
-    Form,
-    Name,
-    Number,
-    Term,
-    Repeated,
-    FullNames,
-    Working,
-    Room,
-    Size,
-    FullTerms,
-    FullRecords,
-    FullTriggers,
-    FullAsks,
-    Position,
+    Form = 1,
+    Name = 2,
+    Number = 3,
+    Term = 4,
+    Repeated = 5,
+    FullNames = 6,
+    Working = 7,
+    Room = 8,
+    Size = 9,
+    FullTerms = 10,
+    FullRecords = 11,
+    FullTriggers = 12,
+    FullAsks = 13,
+    Position = 15,
 }
 
-// What a call comes to: the lists of the asks, or a refusal.
+// What a call comes to: the lists of the asks, or a refusal. No `Result`: on a refusal too an exported call promises its place
+// and its counts (`KeptPromise` of `filter`, `sweep`, `why`, `order`), so the verdict stands beside them.
 #[derive(Clone, Copy)]
 pub enum Verdict {
     Accepted,
@@ -37,8 +38,8 @@ pub struct Answer {
     pub rounds: [u32; 16],
 }
 
-// What the call of reasons comes to: how many of the numbered names are met, and how many rows are filled. A refusal has its place,
-// and both counts 0; rows have place 0.
+// What the call of reasons comes to: how many of the numbered names are met, and how many rows are filled. A refusal has its
+// place, and both counts 0; rows have place 0.
 #[derive(Clone, Copy)]
 pub struct Why {
     pub verdict: Verdict,
@@ -93,7 +94,7 @@ pub enum Op {
     Other,
 }
 
-// The kind of a line.
+// The kind of a line, as the definitions speak of it; what the reader acts on is `Kind` of `fields`, by who reads the line.
 #[derive(Clone, Copy)]
 pub enum LineKind {
     Ask,
@@ -113,14 +114,6 @@ pub enum LineKind {
     Def,
     Retain,
     Root,
-}
-
-// The order of two names in bytes, a prefix first.
-#[derive(Clone, Copy)]
-pub enum Order {
-    Before,
-    Same,
-    After,
 }
 
 // The limits of document 01: the bytes of a file, and what its lines may hold of each sort.
@@ -160,7 +153,8 @@ pub const MOST_ROWS: usize = MOST_ENTRIES;
 pub const WORKING_WORDS: usize = 16384;
 
 // How much of the tables the lines read so far fill: asks (the also lines among them), hide lines, names, references, terms,
-// records (the hide lines among them), trigger entries, name uses; the next mark; and whether the file is of the form with groups.
+// records (the hide lines among them), trigger entries, name uses; the next mark; and whether the file is of the form with
+// groups.
 #[derive(Clone, Copy)]
 pub struct Counts {
     pub asks: usize,
@@ -175,8 +169,8 @@ pub struct Counts {
     pub grouped: bool,
 }
 
-// What a run is asked: the queries of the positions from `first` on before `end`, an options number, and the number of the groups
-// that are admitted.
+// What a run is asked: the queries of the positions from `first` on before `end`, an options number, and the number of the
+// groups that are admitted.
 #[derive(Clone, Copy)]
 pub struct Asked {
     pub first: usize,
@@ -185,9 +179,9 @@ pub struct Asked {
     pub groups: usize,
 }
 
-// What a line comes to: the counts then, or its refusal.
+// A refusal and its place: the number of a line from 1 on, or 0 where no line is at fault.
 #[derive(Clone, Copy)]
-pub enum Step {
-    On(Counts),
-    Refused(Refusal),
+pub struct Refused {
+    pub refusal: Refusal,
+    pub place: u32,
 }

@@ -1,7 +1,6 @@
 -- Laws of entering a name into a table: the index with one number more, and the table with one name more.
 use Prim.Native.Nat.{ℕ, zero, suc, ◌+◌, ◌-◌, ◌%◌, ◌≤◌, ◌<◌}
 use native.Mathlib.Numerals.{add-one}
-use native.Mathlib.Nat.{eq-or-lt_of_le}
 use native.Mathlib.Omega.{arith}
 use mathlib.Core.Path.{◌≡◌, refl, sym, ap, ap₂, ◌∙◌}
 use mathlib.Core.Logic.{◌⊎◌, inl, inr, ⊎_elim}
@@ -10,9 +9,9 @@ use lib.ListN.{length, take, drop, get_or, set, length-append, length-drop, leng
 use lib.Seq.{length-take-le, get_or-append-add, get_or_at, get_or-set_same, get_or-set_other, get_or-take, get_or-drop, ext_get_or}
 use Rattle.model.specs.Lists.{part}
 use Rattle.model.specs.Names.{order}
-use Rattle.model.specs.declared.Order.TheVariants.{Before}
+use Rattle.std.specs.declared.cmp.Ordering.TheVariants.{Less as Before}
 use Rattle.model.proofs.SetLaws.{order_flip}
-use Rattle.names.specs.declared.Found.TheVariants as found
+use Rattle.std.specs.Prelude.{Err}
 use Rattle.names.specs.Known.{head_code, excluded_mark, head_word}
 use Rattle.names.specs.Table.{name_code, name_of, ranked, table_names, Table, look_up, index_with, entered}
 use Rattle.names.proofs.Laws.{Stands, under, level, over, stands, last_or, below_or, name_at, Lacks, found_missing}
@@ -105,26 +104,20 @@ pub record Shifted (old new : List ℕ) (named i : ℕ) : Type 0 where
   pub moved : (j : ℕ) → 4096 + i ≤ j → j < 4096 + named → get_or new (j + 1) 0 ≡ get_or old j 0
   pub after : (j : ℕ) → 4096 + named < j → get_or new j 0 ≡ get_or old j 0
 
--- before the first step
-pub shift_start : (w : List ℕ) (named : ℕ) → Shifted w w named named
-shift_start w named = record { size = refl; same = λ j h. refl; moved = λ j h l. absurd (omega arith); after = λ j h. refl }
-
--- one rank more moves up
-pub shift_on : (old new : List ℕ) (named i : ℕ) → 0 < i → i ≤ named → 4096 + named < length old → Shifted old new named i
-    → Shifted old (set new (4096 + i) (get_or new (4096 + i - 1) 0)) named (i - 1)
-shift_on old new named i p h room s =
-    let v = get_or new (4096 + i - 1) 0 in
-    record {
-      size = rw (length-set new (4096 + i) v) s.size;
-      same = λ j l. get_or-set_other new (4096 + i) j v 0 (λ e. omega arith) ∙ s.same j (omega arith);
-      moved = λ j l m. ⊎_elim
-          (λ (e : 4096 + i ≡ j + 1).
-          let d : 4096 + i - 1 ≡ j = omega arith in
-          rw (← e) (get_or-set_same new (4096 + i) v 0 (omega (arith, s.size)) ∙ s.same (4096 + i - 1) (omega arith) ∙ ap (λ (k : ℕ). get_or old k 0) d))
-          (λ (k : 4096 + i < j + 1). get_or-set_other new (4096 + i) (j + 1) v 0 (λ e. omega arith) ∙ s.moved j (omega arith) m)
-          (eq-or-lt_of_le (omega arith));
-      after = λ j l. get_or-set_other new (4096 + i) j v 0 (λ e. omega arith) ∙ s.after j l;
-    }
+-- the ranks from one on are copied up by one
+pub shift_copied : (old new : List ℕ) (named rank : ℕ) → rank ≤ named → 4096 + named < length old → length new ≡ length old
+    → ((j d : ℕ) → 4096 + rank + 1 ≤ j → j < 4096 + rank + 1 + (4096 + named - (4096 + rank)) → get_or new j d ≡ get_or old (4096 + rank + (j - (4096 + rank + 1))) d)
+    → ((j d : ℕ) → j < 4096 + rank + 1 → get_or new j d ≡ get_or old j d)
+    → ((j d : ℕ) → 4096 + rank + 1 + (4096 + named - (4096 + rank)) ≤ j → get_or new j d ≡ get_or old j d)
+    → Shifted old new named rank
+shift_copied old new named rank h room size copied low high = record {
+  size = size;
+  same = λ j l. low j 0 (omega arith);
+  moved = λ j l m.
+      let d : 4096 + rank + (j + 1 - (4096 + rank + 1)) ≡ j = omega arith in
+      copied (j + 1) 0 (omega arith) (omega arith) ∙ ap (λ (k : ℕ). get_or old k 0) d;
+  after = λ j l. high j 0 (omega arith);
+}
 
 -- all ranks from one on have moved, and the number is put there
 pub shift_end : (old new : List ℕ) (named i rank : ℕ) → i ≡ rank → rank ≤ named → 4096 + named < length old → Shifted old new named i
@@ -353,7 +346,7 @@ module _ (file w : List ℕ) (named a e rank : ℕ) (h : rank ≤ named) (few : 
 
 -- a table with one name more is a table
 pub entered_table : {file w : List ℕ} {named : ℕ} → Table file w named → named < 2048 → (a e rank : ℕ) → a ≤ e → e ≤ length file
-    → look_up (table_names file w named) (part file a e) ≡ found.Missing rank → Table file (entered file w named a e rank) (named + 1)
+    → look_up (table_names file w named) (part file a e) ≡ Err rank → Table file (entered file w named a e rank) (named + 1)
 entered_table {file} {w} {named} table few a e rank o inside missing =
     let lacks = found_missing table (part file a e) rank missing in
     table_still file w named a e rank lacks.within few table.room table o inside lacks

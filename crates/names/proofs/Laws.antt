@@ -7,22 +7,20 @@ use mathlib.Core.Path.{◌≡◌, refl, sym, ap, ◌∙◌}
 use mathlib.Core.Logic.{◌⊎◌, inl, inr, ⊎_elim, ◌↔◌}
 use mathlib.Core.Bool.{Bool, true, false, cond, or-false, or_comm}
 use mathlib.Core.List.{List, [], ◌∷◌, ◌++◌}
-use mathlib.Core.Option.{none, some}
+use Rattle.std.specs.Prelude.{None as none, Some as some, Result, Ok, Err}
 use lib.ListN.{length, get_or, length-append, get_or-append}
 use lib.Seq.{get_or_at}
 use lib.Dec.{T, not_T, ltb}
 use borrow.Author.Tests.{ltb-true, ltb-false}
 use Rattle.model.specs.Lists.{any, count, part}
 use Rattle.model.specs.Names.{Name, order, same, mem, add_by, add}
-use Rattle.model.specs.declared.Order.{Order}
-use Rattle.model.specs.declared.Order.TheVariants.{Before, After}
+use Rattle.std.specs.declared.cmp.Ordering.{Ordering as Order}
+use Rattle.std.specs.declared.cmp.Ordering.TheVariants.{Less as Before, Greater as After}
 use Rattle.model.proofs.ListLaws.{T_true, T_false, any_append, count_append}
 use Rattle.model.proofs.SetLaws.{order_flip, order_trans, order_irrefl, Compared, first, equal, second, compared, same_refl, same_eq, mem_cons, mem_first, mem_later, mem_append, add_mem, Ascending, empty, one, ascending_tail, ascending_head, ascending_cons, ascending_add, ascending_ext}
 use Rattle.text.specs.declared.Comparison.{Comparison}
 use Rattle.text.specs.Parts.{shared, comparison}
 use Rattle.text.proofs.Laws.{shared_between}
-use Rattle.names.specs.declared.Found.{Found}
-use Rattle.names.specs.declared.Found.TheVariants.{At, Missing}
 use Rattle.names.specs.Table.{name_of, ranked, table_names, Table, place_from, is_before, rank_among, found_or, look_up}
 
 -- ---- numbers
@@ -459,7 +457,7 @@ module _ {file w : List ℕ} {named : ℕ} (table : Table file w named) where
     }
 
   -- a name that stands at a rank is found there
-  pub look_up_at : (r : ℕ) (name : Name) → r < named → name_at file w r ≡ name → look_up (table_names file w named) name ≡ At (ranked w r)
+  pub look_up_at : (r : ℕ) (name : Name) → r < named → name_at file w r ≡ name → look_up (table_names file w named) name ≡ Ok (ranked w r)
   unfolding look_up found_or
   look_up_at r name h e = rw (← e, names_listed file w named, listed_place (name_of file w) named (ranked w r) apart (table.numbers r h))
 
@@ -479,7 +477,7 @@ module _ {file w : List ℕ} {named : ℕ} (table : Table file w named) where
 
   -- a name before which each rank below one stands, and after which each other, is missing there
   pub look_up_missing : (low : ℕ) (name : Name) → low ≤ named → ((q : ℕ) → q < low → order (name_at file w q) name ≡ Before)
-      → ((q : ℕ) → low ≤ q → q < named → order (name_at file w q) name ≡ After) → look_up (table_names file w named) name ≡ Missing low
+      → ((q : ℕ) → low ≤ q → q < named → order (name_at file w q) name ≡ After) → look_up (table_names file w named) name ≡ Err low
   unfolding look_up found_or rank_among is_before index_names
   look_up_missing low name h b a =
       let test : Name → Bool = λ m. is_before (order m name) in
@@ -490,7 +488,7 @@ module _ {file w : List ℕ} {named : ℕ} (table : Table file w named) where
       rw (place_none 0 (table_names file w named) name (not_among low name b a), n)
 
   -- a name that is found has that number
-  pub found_at : (name : Name) (n : ℕ) → look_up (table_names file w named) name ≡ At n → (n < named) × (name_of file w n ≡ name)
+  pub found_at : (name : Name) (n : ℕ) → look_up (table_names file w named) name ≡ Ok n → (n < named) × (name_of file w n ≡ name)
   found_at name n h = go (sought (name_at file w) named name table.ascending)
     where
       go : Sought (name_at file w) named name → (n < named) × (name_of file w n ≡ name)
@@ -504,7 +502,7 @@ module _ {file w : List ℕ} {named : ℕ} (table : Table file w named) where
           absurd (omega arith)
 
   -- a name that is missing belongs at that rank
-  pub found_missing : (name : Name) (rank : ℕ) → look_up (table_names file w named) name ≡ Missing rank → Lacks file w named name rank
+  pub found_missing : (name : Name) (rank : ℕ) → look_up (table_names file w named) name ≡ Err rank → Lacks file w named name rank
   found_missing name rank h = go (sought (name_at file w) named name table.ascending)
     where
       go : Sought (name_at file w) named name → Lacks file w named name rank
@@ -519,7 +517,7 @@ module _ {file w : List ℕ} {named : ℕ} (table : Table file w named) where
           rw d at lacks
 
   -- the rank that is answered is at most the count
-  pub missing_within : (name : Name) (rank : ℕ) (x : Found) → x ≡ look_up (table_names file w named) name → x ≡ Missing rank → rank ≤ named
+  pub missing_within : (name : Name) (rank : ℕ) (x : Result ℕ ℕ) → x ≡ look_up (table_names file w named) name → x ≡ Err rank → rank ≤ named
   missing_within name rank x p q = (found_missing name rank (sym p ∙ q)).within
 
 -- a slice with room, and no names

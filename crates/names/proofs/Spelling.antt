@@ -5,14 +5,13 @@ use mathlib.Core.Path.{◌≡◌, refl, sym, ◌∙◌}
 use mathlib.Core.Bool.{Bool, true, false, cond}
 use mathlib.Core.List.{List, [], ◌∷◌, ◌++◌}
 use lib.ListN.{length}
+use Rattle.std.specs.Prelude.{Result, Ok, Err}
 use lib.Dec.{T, not_T, ltb}
 use borrow.Author.Tests.{lt-ltb, le-ltb, ltb-true, ltb-false}
 use Rattle.model.specs.Lists.{part}
 use Rattle.model.specs.Names.{Name, mem}
 use Rattle.model.specs.Reading.{spell}
 use Rattle.model.proofs.ListLaws.{cond_true, cond_false}
-use Rattle.names.specs.declared.Found.{Found}
-use Rattle.names.specs.declared.Found.TheVariants.{At, Missing}
 use Rattle.names.specs.declared.Spelled.{Spelled}
 use Rattle.names.specs.declared.Spelled.TheVariants.{Known, New, Full}
 use Rattle.names.specs.Table.{name_of, table_names, Table, look_up, entered, spell_answer, spell_table}
@@ -31,18 +30,18 @@ spell_fresh name names h = sym (cond_false (mem name names) names (names ++ (nam
 
 -- where the table has room, a missing name is new
 pub missing_new : (file w : List ℕ) (named a e rank : ℕ) → named < 2048
-    → (spell_answer named (Missing rank) ≡ New named) × (spell_table file w named a e (Missing rank) ≡ entered file w named a e rank)
+    → (spell_answer named (Err rank) ≡ New named) × (spell_table file w named a e (Err rank) ≡ entered file w named a e rank)
 unfolding spell_answer spell_table
 missing_new file w named a e rank h = (rw (lt-ltb named 2048 h), rw (lt-ltb named 2048 h))
 
 -- where it has none, it is full
 pub missing_full : (file w : List ℕ) (named a e rank : ℕ) → 2048 ≤ named
-    → (spell_answer named (Missing rank) ≡ Full) × (spell_table file w named a e (Missing rank) ≡ w)
+    → (spell_answer named (Err rank) ≡ Full) × (spell_table file w named a e (Err rank) ≡ w)
 unfolding spell_answer spell_table
 missing_full file w named a e rank h = (rw (le-ltb named 2048 h), rw (le-ltb named 2048 h))
 
 -- what was answered by what a look_up found is answered by the look_up
-pub spell_by : (file w w' : List ℕ) (named a e : ℕ) (r : Spelled) (l f x : Found) → x ≡ l → x ≡ f
+pub spell_by : (file w w' : List ℕ) (named a e : ℕ) (r : Spelled) (l f x : Result ℕ ℕ) → x ≡ l → x ≡ f
     → r ≡ spell_answer named f → w' ≡ spell_table file w named a e f
     → (r ≡ spell_answer named l) × (w' ≡ spell_table file w named a e l)
 spell_by file w w' named a e r l f x p q answer table = rw (← p, q) (answer, table)
@@ -84,9 +83,9 @@ module _ {file w : List ℕ} {named : ℕ} (table : Table file w named) (a e : �
   unfolding spell_answer spell_table
   spell_law w' r p q = rw p (go (look_up (table_names file w named) (part file a e)) refl q)
     where
-      go : (f : Found) → look_up (table_names file w named) (part file a e) ≡ f → w' ≡ spell_table file w named a e f
+      go : (f : Result ℕ ℕ) → look_up (table_names file w named) (part file a e) ≡ f → w' ≡ spell_table file w named a e f
           → Spelling file w w' named a e (spell_answer named f)
-      go (At n) d q =
+      go (Ok n) d q =
           let (h, is_name) = found_at table (part file a e) n d in
           known
           (record {
@@ -95,7 +94,7 @@ module _ {file w : List ℕ} {named : ℕ} (table : Table file w named) (a e : �
             kept = q;
             names = spell_old (part file a e) (table_names file w named) (rw is_name at (names_intro file w named n h));
           })
-      go (Missing rank) d q = choose (ltb named 2048) refl q
+      go (Err rank) d q = choose (ltb named 2048) refl q
         where
           lacks : Lacks file w named (part file a e) rank
           lacks = found_missing table (part file a e) rank d

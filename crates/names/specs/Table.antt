@@ -1,18 +1,15 @@
 -- The name table in a lent slice: 8 columns of 2,048 words. By name number: where the name starts in the file (from word 0),
 -- its length, its head code with the mark of an excluded name; by rank in byte order: the number. The other columns belong to
 -- other crates.
-use Rattle.std.specs.Prelude.{ℕ, zero, suc, ◌+◌, ◌-◌, ◌%◌, ◌≤◌, ◌<◌, ◌≡◌, Bool, true, false, cond, List, [], ◌∷◌, ◌++◌, length, take, drop, get_or, set, leb, ltb}
-use Rattle.std.proofs.Math.Option.{Option, none, some}
+use Rattle.std.specs.Prelude.{ℕ, zero, suc, ◌+◌, ◌-◌, ◌%◌, ◌≤◌, ◌<◌, ◌≡◌, Bool, true, false, cond, List, [], ◌∷◌, ◌++◌, length, take, drop, get_or, set, leb, ltb, Option, None as none, Some as some, Result, Ok, Err}
 use Rattle.model.specs.Lists.{count, part}
 use Rattle.model.specs.Names.{Name, order, same, mem}
-use Rattle.model.specs.declared.Order.{Order}
-use Rattle.model.specs.declared.Order.TheVariants.{Before, Same, After}
+use Rattle.std.specs.declared.cmp.Ordering.{Ordering as Order}
+use Rattle.std.specs.declared.cmp.Ordering.TheVariants.{Less as Before, Equal as Same, Greater as After}
 use Rattle.model.specs.Reading.{most_names}
 use Rattle.model.specs.Outcome.{most_bytes, working_words}
 use Rattle.model.specs.Summaries.{exclude_names}
 use Rattle.names.specs.Known.{head_code, excluded_mark, head_word}
-use Rattle.names.specs.declared.Found.{Found}
-use Rattle.names.specs.declared.Found.TheVariants as found
 use Rattle.names.specs.declared.Spelled.{Spelled}
 use Rattle.names.specs.declared.Spelled.TheVariants as spelled
 
@@ -104,12 +101,12 @@ unfoldable pub rank_among : List Name → Name → ℕ
 rank_among names name = count (λ m. is_before (order m name)) names
 
 -- a look_up's answer: the name's number, or the rank where it belongs
-unfoldable pub found_or : Option ℕ → ℕ → Found
-found_or none rank = found.Missing rank
-found_or (some n) rank = found.At n
+unfoldable pub found_or : Option ℕ → ℕ → Result ℕ ℕ
+found_or none rank = Err rank
+found_or (some n) rank = Ok n
 
 -- the number of a name in a list of names, or the rank where it belongs
-unfoldable pub look_up : List Name → Name → Found
+unfoldable pub look_up : List Name → Name → Result ℕ ℕ
 look_up names name = found_or (place_from 0 names name) (rank_among names name)
 
 -- the slice with the number `named` put into the index at a rank, the later ranks moved up by one
@@ -125,11 +122,11 @@ entered file w named a e rank =
     set (set (set (index_with w named rank) named a) (length_column + named) (e - a)) (code_column + named) (head_word (part file a e))
 
 -- what spelling a name comes to, by what the look_up found: at 2,048 names the table is full
-unfoldable pub spell_answer : ℕ → Found → Spelled
-spell_answer named (found.At n) = spelled.Known n
-spell_answer named (found.Missing rank) = cond (ltb named most_names) (spelled.New named) spelled.Full
+unfoldable pub spell_answer : ℕ → Result ℕ ℕ → Spelled
+spell_answer named (Ok n) = spelled.Known n
+spell_answer named (Err rank) = cond (ltb named most_names) (spelled.New named) spelled.Full
 
 -- the slice then: only a new name changes it, and a full table changes nothing
-unfoldable pub spell_table : List ℕ → List ℕ → ℕ → ℕ → ℕ → Found → List ℕ
-spell_table file w named a e (found.At n) = w
-spell_table file w named a e (found.Missing rank) = cond (ltb named most_names) (entered file w named a e rank) w
+unfoldable pub spell_table : List ℕ → List ℕ → ℕ → ℕ → ℕ → Result ℕ ℕ → List ℕ
+spell_table file w named a e (Ok n) = w
+spell_table file w named a e (Err rank) = cond (ltb named most_names) (entered file w named a e rank) w

@@ -1,6 +1,6 @@
 #![tactic(auto)]
 
-ghost use Rattle.std.specs.Prelude.{◌+◌, ◌≤◌, ◌<◌, ◌≡◌, length};
+ghost use Rattle.std.specs.Prelude.{◌+◌, ◌≤◌, ◌<◌, ◌≡◌, length, Err};
 ghost use Rattle.model.specs.Lists.{part};
 ghost use Rattle.model.specs.Reading.{most_names};
 ghost use Rattle.model.specs.Outcome.{working_words};
@@ -8,16 +8,10 @@ ghost use Rattle.text.specs.Parts.{IsPart, shared, comparison};
 ghost use Rattle.names.specs.Known.{head_code, head_word, known_text};
 ghost use Rattle.names.specs.Table.{length_column, name_start, name_length, name_code, Table, is_excluded, excluded_at, name_of, table_names, look_up, index_with, spell_answer, spell_table};
 
-use model::Order;
+use std::cmp::Ordering;
 
-// What a look_up finds: the name's number, or the rank where the name belongs in byte order.
-#[derive(Clone, Copy)]
-pub enum Found {
-    At(usize),
-    Missing(usize),
-}
-
-// What spelling a name comes to: the number that it has, the number that it is given, or that the table is full.
+// What spelling a name comes to: the number that it has, the number that it is given, or that the table is full. These are
+// three answers that `fields` and `summary` take three ways, and no error among them.
 #[derive(Clone, Copy)]
 pub enum Spelled {
     Known(usize),
@@ -51,17 +45,15 @@ const SHORTEST: usize = 5;
 const LONGEST: usize = 16;
 
 // The head code of the part from `a` up to `e`: its place among the known names from 1, or 0.
+#[tactic(auto, using(crate::proofs::Codes::head_short, crate::proofs::Codes::head_long))]
 fn head_code(file: &[u8], a: usize, e: usize) -> u32
     requires { (a ≤ e) × (e ≤ length file.now) }
     ensures { result ≡ head_code (part file.now a e) }
 {
-    if e - a < SHORTEST {
-        return 0;
+    match e - a {
+        SHORTEST..=LONGEST => code_in(file, a, e, &KNOWN),
+        _ => 0,
     }
-    if LONGEST < e - a {
-        return 0;
-    }
-    code_in(file, a, e, &KNOWN)
 }
 
 // The head code of a part of any length, by the text of the known names.
@@ -71,6 +63,7 @@ fn code_in(file: &[u8], a: usize, e: usize, known: &[u8]) -> u32
 {
     let mut code: u32 = 1;
     let mut i: usize = 0;
+    // No range counts the turns: each name is stepped over by its own length, as `known_text` of specs/Known has them.
     while i < known.len() {
         let start = i + 1;
         let stop = start + wide(known[i]);
@@ -116,10 +109,10 @@ fn compare(file: &[u8], w: &[u32], n: usize, a: usize, e: usize, from: usize) ->
     text::compare_from(file, start, start + size, a, e, from)
 }
 
-// The number of the name from `a` up to `e`, or the rank where it belongs: a binary search in the byte-order index. The name
-// shares `below` bytes with the name before the rank `low` and `above` bytes with the one at `high`, or none where there is no
-// such name; what stands between the two shares at least the lesser number of bytes with it.
-fn look_up(file: &[u8], w: &[u32], named: usize, a: usize, e: usize) -> Found
+// The number of the name from `a` up to `e`, or as an error the rank where it belongs: a binary search in the byte-order index.
+// The name shares `below` bytes with the name before the rank `low` and `above` bytes with the one at `high`, or none where
+// there is no such name; what stands between the two shares at least the lesser number of bytes with it.
+fn look_up(file: &[u8], w: &[u32], named: usize, a: usize, e: usize) -> Result<usize, usize>
     requires { Table file.now w.now named × (a ≤ e) × (e ≤ length file.now) }
     ensures { result ≡ look_up (table_names file.now w.now named) (part file.now a e) }
 {
@@ -127,26 +120,24 @@ fn look_up(file: &[u8], w: &[u32], named: usize, a: usize, e: usize) -> Found
     let mut high = named;
     let mut below: usize = 0;
     let mut above: usize = 0;
+    // Not `binary_search_by` of the index: how many bytes are shared with the names on both sides goes from turn to turn.
     while low < high {
         let middle = low + (high - low) / 2;
         let n = words::at(w, INDEX + middle);
-        let met = compare(file, w, n, a, e, text::lesser(below, above));
-        let order = met.order;
-        match order {
-            Order::Before => {
+        let met = compare(file, w, n, a, e, below.min(above));
+        match met.order {
+            Ordering::Less => {
                 low = middle + 1;
                 below = met.shared;
             }
-            Order::Same => {
-                return Found::At(n);
-            }
-            Order::After => {
+            Ordering::Equal => return Ok(n),
+            Ordering::Greater => {
                 high = middle;
                 above = met.shared;
             }
         }
     }
-    Found::Missing(low)
+    Err(low)
 }
 
 // Spells the name from `a` up to `e`: a new one takes the number `named`, unless the table is full.
@@ -158,16 +149,16 @@ pub fn spell(file: &[u8], w: &mut [u32], named: usize, a: usize, e: usize) -> Sp
         (look_up (table_names file.now w.old named) (part file.now a e)) }
 {
     match look_up(file, w, named, a, e) {
-        Found::At(n) => Spelled::Known(n),
-        Found::Missing(rank) => enter(file, w, named, a, e, rank),
+        Ok(n) => Spelled::Known(n),
+        Err(rank) => enter(file, w, named, a, e, rank),
     }
 }
 
 // Enters the name from `a` up to `e`, which belongs at a rank: it takes the number `named`, unless the table is full.
 fn enter(file: &[u8], w: &mut [u32], named: usize, a: usize, e: usize, rank: usize) -> Spelled
     requires { Table file.now w.old named × (a ≤ e) × (e ≤ length file.now) × (rank ≤ named) }
-    ensures answer { result ≡ spell_answer named (Found.Missing rank) }
-    ensures table { w.new ≡ spell_table file.now w.old named a e (Found.Missing rank) }
+    ensures answer { result ≡ spell_answer named (Err rank) }
+    ensures table { w.new ≡ spell_table file.now w.old named a e (Err rank) }
 {
     if model::MOST_NAMES <= named {
         return Spelled::Full;
@@ -184,11 +175,7 @@ fn put_index(w: &mut [u32], named: usize, rank: usize)
     requires { (rank ≤ named) × (named < most_names) × (working_words ≤ length w.old) }
     ensures { w.new ≡ index_with w.old named rank }
 {
-    let mut i = named;
-    while rank < i {
-        w[INDEX + i] = w[INDEX + i - 1];
-        i -= 1;
-    }
+    w.copy_within(INDEX + rank..INDEX + named, INDEX + rank + 1);
     w[INDEX + rank] = named as u32;
 }
 

@@ -1,6 +1,7 @@
 -- Laws of each kind of term line but the quantifiers: what its fields say, its name and its references.
 use Prim.Native.Nat.{ℕ, suc, ◌+◌, ◌%◌, ◌≤◌, ◌<◌}
 use native.Mathlib.Omega.{arith}
+use Rattle.std.specs.Prelude.{⊤}
 use mathlib.Core.Path.{◌≡◌, refl, sym, ap, ap₂, ◌∙◌}
 use mathlib.Core.Bool.{Bool}
 use mathlib.Core.List.{List, [], ◌∷◌, Memᴰ}
@@ -10,7 +11,7 @@ use Rattle.model.specs.Names.{Name}
 use Rattle.model.specs.Lines.{Field}
 use Rattle.model.specs.Summaries.{op_number}
 use Rattle.model.specs.Terms.{Node, free_v, leaf, call, app, let_in, labeled, references}
-use Rattle.model.specs.Reading.{ok, refused, ◌>>=◌, need, word, op_words, next, rest, end, name_field, term_field, term, content, spelled_by}
+use Rattle.model.specs.Reading.{Result, ok, refused, ◌>>=◌, need, word, op_words, next, rest, end, name_field, term_field, term, content, spelled_by}
 use Rattle.model.specs.declared.Counts.{Counts}
 use Rattle.model.specs.declared.LineKind.{LineKind}
 use Rattle.model.specs.declared.LineKind.TheVariants as kind
@@ -24,12 +25,10 @@ use Rattle.text.specs.Parts.{fields_left}
 use Rattle.text.proofs.Laws.{left_none}
 use Rattle.names.specs.Table.{table_names}
 use Rattle.terms.specs.Rows.{terms_of_words, op_of_code}
-use Rattle.nodes.specs.declared.Passed.{Passed}
-use Rattle.nodes.specs.declared.Passed.TheVariants as passed
 use Rattle.fields.specs.Wording.{op_field}
 use Rattle.fields.specs.Pushing.{reference}
 use Rattle.fields.specs.Spelling.{in_table, SpelledAs}
-use Rattle.nodes.specs.Growing.{FirstPassed, Stands}
+use Rattle.nodes.specs.Growing.{WithinLimits, Stands}
 use Rattle.fields.proofs.Pushing.{left_cons}
 use Rattle.fields.proofs.Spelling.{NameRead, longer_same}
 use Rattle.fields.proofs.Runs.{in_group, Ran, ran_none, ran_then, TermRan, RestRan}
@@ -202,7 +201,7 @@ module _ {file names refs rows : List ℕ} (k : Counts) (t : Stands file names r
 -- ---- its words behind the table
 
 module _ {file names refs rows names' refs' : List ℕ} {k : Counts} {kind : LineKind} {c : Cursor} {named' end : ℕ} {node : Node}
-    (t : Stands file names refs rows k) {r : Passed} (d : FirstPassed named' end r) (e : r ≡ passed.Nothing) where
+    (t : Stands file names refs rows k) {r : Result ⊤} (d : WithinLimits named' end r) (e : r ≡ ok tt) where
   -- the terms of a line whose words are those of terms
   pub line_terms : {ts : List ℕ} → LineRead file names refs names' refs' k kind c named' end node (in_group 0 ts)
       → ((u : ℕ) → Memᴰ u ts → u < k.terms)

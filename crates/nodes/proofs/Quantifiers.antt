@@ -1,6 +1,7 @@
 -- Laws of an `all` and a `some`: their body and groups read, and their words behind the table.
 use Prim.Native.Nat.{ℕ, suc, ◌+◌, ◌-◌, ◌%◌, ◌≤◌, ◌<◌}
 use native.Mathlib.Omega.{arith}
+use Rattle.std.specs.Prelude.{⊤}
 use mathlib.Core.Path.{◌≡◌, refl, sym, ap, ap₂, ◌∙◌}
 use mathlib.Core.Bool.{Bool, true, false}
 use mathlib.Core.List.{List, [], ◌∷◌, map, Memᴰ}
@@ -19,12 +20,8 @@ use Rattle.terms.specs.Rows.{groups_of_words}
 use Rattle.terms.proofs.Groups.{group_words, groups_law, group_words_rise}
 use Rattle.additions.specs.Additions.{Patterns}
 use Rattle.words.specs.Slices.{SameBut}
-use Rattle.nodes.specs.declared.Passed.{Passed}
-use Rattle.nodes.specs.declared.Passed.TheVariants as passed
-use Rattle.nodes.specs.declared.Quantifier.{Quantifier}
-use Rattle.nodes.specs.declared.Quantifier.TheVariants as quantified
 use Rattle.fields.specs.Pushing.{reference, most_number, ReferencesRead, push_one, push_groups}
-use Rattle.nodes.specs.Growing.{quantifier_kind, push_quantifier, quantifier_result, Quantifies, FirstPassed, Stands}
+use Rattle.nodes.specs.Growing.{quantifier_kind, push_quantifier, quantifier_result, Quantifies, WithinLimits, Stands}
 use Rattle.fields.proofs.Runs.{Ran, ran_then, word_small, term_ran, groups_ran, term_refused, groups_refused}
 use Rattle.nodes.proofs.Terms.{LineRead, line_long}
 use Rattle.nodes.proofs.Lines.{plain_line, line_bodied, line_body, line_after}
@@ -58,16 +55,16 @@ module _ (count : ℕ) (refs : List ℕ) (used : ℕ) (fs : List Field) where
 module _ {file refs refs' : List ℕ} {from many : ℕ} {c : Cursor} where
   -- a refusal
   pub quantifies_not : {x : Refusal} → push_quantifier many refs from (fields_left file c) ≡ refused x → SameBut 0 most_references refs refs'
-      → Quantifies file refs refs' from many c (quantified.Refused x)
+      → Quantifies file refs refs' from many c (refused x)
   unfolding quantifier_result
-  quantifies_not e s = record { answer = sym e; groups = λ used g d. let z : ◌≡◌ {A = ℕ} 0 1 = cc in absurd (omega arith); kept = s }
+  quantifies_not e s = record { answer = sym e; groups = λ used g d. absurd (not_ok d); kept = s }
 
   -- a quantifier that was pushed
   pub quantifies_at : {used g : ℕ} → push_quantifier many refs from (fields_left file c) ≡ ok (refs', used, g) → g ≤ most_number
       → SameBut 0 most_references refs refs'
-      → Quantifies file refs refs' from many c (quantified.Read used g)
+      → Quantifies file refs refs' from many c (ok (used, g))
   unfolding quantifier_result
-  quantifies_at {used} {g} e l s = record { answer = sym e; groups = λ used' g' d. let z : g ≡ g' = cc in rw (← z) l; kept = s }
+  quantifies_at {used} {g} e l s = record { answer = sym e; groups = λ used' g' d. let z : g ≡ g' = ap (λ q. q.1) (ok_eq d) in rw (← z) l; kept = s }
 
 -- a body and groups that were read and pushed
 pub record Quantified (count : ℕ) (refs refs' : List ℕ) (from stop g : ℕ) (fs : List Field) : Type 0 where
@@ -202,14 +199,14 @@ quantifier_plain false body gs = (refl, refl)
 
 -- ---- the answer of `push_quantifier`
 
-module _ {file refs refs' : List ℕ} {from many : ℕ} {c : Cursor} {r : Quantifier} (p : Quantifies file refs refs' from many c r) (few : many ≤ 4096) where
+module _ {file refs refs' : List ℕ} {from many : ℕ} {c : Cursor} {r : Result (ℕ × ℕ)} (p : Quantifies file refs refs' from many c r) (few : many ≤ 4096) where
   -- a quantifier that was pushed
-  pub quantifier_read : {used g : ℕ} → r ≡ quantified.Read used g → Quantified many refs refs' from used g (fields_left file c)
+  pub quantifier_read : {used g : ℕ} → r ≡ ok (used, g) → Quantified many refs refs' from used g (fields_left file c)
   unfolding quantifier_result
   quantifier_read e = quantified_at many few refs from (fields_left file c) (sym p.answer ∙ ap (quantifier_result refs') e)
 
   -- a field that is refused
-  pub quantifier_not : (all grouped : Bool) {x : Refusal} → r ≡ quantified.Refused x → content (quantifier_kind all) grouped many (fields_left file c) ≡ refused x
+  pub quantifier_not : (all grouped : Bool) {x : Refusal} → r ≡ refused x → content (quantifier_kind all) grouped many (fields_left file c) ≡ refused x
   unfolding quantifier_result
   quantifier_not all grouped e =
       quantifier_content all grouped many (fields_left file c)
@@ -241,7 +238,7 @@ module _ {file names refs rows refs' : List ℕ} (k : Counts) {stop g : ℕ} (c 
       plain_line t (quantifier_content all k.grouped k.terms (fields_left file c) ∙ b.said (quantifier_node all)) b.ran
       (rw refers (ap suc (group_length 0 b.gs))) plain
 
-  module _ {r : Passed} (d : FirstPassed k.names stop r) (e : r ≡ passed.Nothing) where
+  module _ {r : Result ⊤} (d : WithinLimits k.names stop r) (e : r ≡ ok tt) where
     -- the words after the body
     after_body : part refs' (k.references + 1) stop ≡ group_words 0 b.gs
     after_body = line_after t d e b.body quantifier_line

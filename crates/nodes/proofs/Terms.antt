@@ -1,6 +1,7 @@
 -- Laws of term lines: from the fields that were read to the tables with the line's term, for every kind of line.
 use Prim.Native.Nat.{ℕ, zero, suc, ◌+◌, ◌-◌, ◌*◌, ◌/◌, ◌%◌, ◌≤◌, ◌<◌}
 use native.Mathlib.Omega.{arith}
+use Rattle.std.specs.Prelude.{⊤}
 use mathlib.Core.Path.{◌≡◌, refl, ap, ap₂, ◌∙◌}
 use mathlib.Core.Logic.{⊎_elim}
 use mathlib.Core.List.{List, [], ◌∷◌, ◌++◌, Memᴰ}
@@ -8,7 +9,7 @@ use lib.ListN.{length, get_or}
 use Rattle.model.specs.Lists.{fold_left, part}
 use Rattle.model.specs.Names.{Name}
 use Rattle.model.specs.Terms.{Node, add_term, references}
-use Rattle.model.specs.Reading.{ok, refused, term, content, spell, spelled_by, most_names, most_terms, most_references}
+use Rattle.model.specs.Reading.{Result, ok, refused, term, content, spell, spelled_by, most_names, most_terms, most_references}
 use Rattle.model.specs.declared.Counts.{Counts}
 use Rattle.model.specs.declared.LineKind.{LineKind}
 use Rattle.model.specs.declared.Refusal.{Refusal}
@@ -19,22 +20,19 @@ use Rattle.names.specs.Table.{name_of, table_names}
 use Rattle.terms.specs.Rows.{row_start, row_end, row_kind, row_op, row_head, row_extra, op_of_code, make_node, node_of, nodes_below, terms_of, Rows}
 use Rattle.terms.proofs.Laws.{below}
 use Rattle.terms.proofs.Table.{rows_named, terms_named}
-use Rattle.additions.specs.Additions.{with_row, rows_after, references_pushed, Pushed, AddsTerm}
-use Rattle.additions.specs.declared.Added.{Added}
+use Rattle.additions.specs.Additions.{Addition, with_row, rows_after, references_pushed, Pushed, AddsTerm}
 use Rattle.additions.proofs.Laws.{added_in, added_full}
 use Rattle.additions.proofs.Lines.{pushed_none, pushed_one}
 use Rattle.words.specs.Slices.{SameBut}
 use Rattle.words.proofs.Slices.{same_self, same_then, same_set}
 use Rattle.rules.specs.Views.{Tables, terms_in}
-use Rattle.nodes.specs.declared.Passed.{Passed}
-use Rattle.nodes.specs.declared.Passed.TheVariants as passed
 use Rattle.fields.specs.declared.TermKind.{TermKind}
-use Rattle.model.specs.declared.Step.{Step}
-use Rattle.model.specs.declared.Step.TheVariants as step
+use Rattle.model.specs.Steps.{Step}
+use Rattle.model.specs.Steps as step
 use Rattle.fields.specs.Wording.{term_kind}
 use Rattle.fields.specs.Pushing.{push_all, Pushable}
 use Rattle.fields.specs.Spelling.{name_columns, Naming, Longer}
-use Rattle.nodes.specs.Growing.{FirstPassed, by_names, by_references, by_none, grown_to, Stands, rows_marks_start, Kept, Passes, names_passed, terms_passed, references_passed, grown, over, not_read, ReadsTerm}
+use Rattle.nodes.specs.Growing.{WithinLimits, by_names, by_references, by_none, grown_to, Stands, rows_marks_start, Kept, Passes, names_passed, terms_passed, references_passed, grown, over, not_read, ReadsTerm}
 use Rattle.fields.proofs.Spelling.{naming_table, naming_past, naming_few}
 use Rattle.fields.proofs.Runs.{Ran, ran_kept, ran_agrees, ran_words}
 
@@ -87,16 +85,16 @@ row_kept rows many word start extra = ⊎_elim
 -- ---- limits
 
 -- none is passed
-under_both : {named used : ℕ} {r : Passed} → FirstPassed named used r → r ≡ passed.Nothing
+under_both : {named used : ℕ} {r : Result ⊤} → WithinLimits named used r → r ≡ ok tt
     → (named ≤ most_names) × (used ≤ most_references)
 under_both {named} {used} d e = go (rw e at d)
   where
-    go : FirstPassed named used passed.Nothing → (named ≤ most_names) × (used ≤ most_references)
+    go : WithinLimits named used (ok tt) → (named ≤ most_names) × (used ≤ most_references)
     go (by_none a b) = (a, b)
 
 -- nor is where the tables are right
 pub under_start : {file names refs rows : List ℕ} {named used many : ℕ} → Tables file names refs rows named used many
-    → FirstPassed named used passed.Nothing
+    → WithinLimits named used (ok tt)
 under_start t = by_none t.name_table.few t.term_table.few_references
 
 -- ---- a line that was read
@@ -129,25 +127,25 @@ module _ {file names refs rows names' refs' : List ℕ} {k : Counts} {kind : Lin
 
   module _ {named' end : ℕ} {node : Node} {words : List ℕ} (t : Stands file names refs rows k)
       (b : LineRead file names refs names' refs' k kind c named' end node words)
-      {r : Passed} (d : FirstPassed named' end r) where
+      {r : Result ⊤} (d : WithinLimits named' end r) where
     -- the slices but the rows
     line_kept : {rows' : List ℕ} → SameBut 0 rows_marks_start rows rows' → Kept names refs rows names' refs' rows'
     line_kept r = record { names_kept = b.longer.kept; refs_kept = ran_kept b.ran; rows_kept = r }
 
     -- names or references past their limit
-    pub line_over : {x : Refusal} → r ≡ passed.Full x
+    pub line_over : {x : Refusal} → r ≡ refused x
         → ReadsTerm file names refs rows names' refs' rows k kind c (step.Refused x)
     line_over {x} e = record {
       grows = over {x = x} b.says (go (rw e at d));
       kept = line_kept (same_self 0 rows_marks_start rows);
     }
       where
-        go : {x : Refusal} → FirstPassed named' end (passed.Full x)
+        go : {x : Refusal} → WithinLimits named' end (refused x)
             → Passes file names refs rows names' refs' rows k node x
         go (by_names h) = names_passed (naming_past b.naming h)
         go (by_references h l) = references_passed (naming_few b.naming h) (omega (arith, b.ran.ends, b.count))
 
-    module _ (e : r ≡ passed.Nothing) where
+    module _ (e : r ≡ ok tt) where
       -- no limit is passed
       pub line_few : (named' ≤ most_names) × (end ≤ most_references)
       line_few = under_both d e
@@ -167,7 +165,7 @@ module _ {file names refs rows names' refs' : List ℕ} {k : Counts} {kind : Lin
       line_words = ran_words b.ran t.term_table.ref_room line_few.1
 
       -- the line's row is added
-      pub line_added : {rows' : List ℕ} {a : Added} {f : Step} {word extra : ℕ} {make : (ℕ → Name) → Node} → f ≡ grown_to a k named' end
+      pub line_added : {rows' : List ℕ} {a : Addition} {f : Step} {word extra : ℕ} {make : (ℕ → Name) → Node} → f ≡ grown_to a k named' end
           → AddsTerm refs' rows rows' k.references end k.terms named' word extra make a → make (name_of file names') ≡ node
           → ReadsTerm file names refs rows names' refs' rows' k kind c f
       unfolding grown_to terms_in

@@ -1,5 +1,5 @@
 -- A term line read into the tables: what its fields say, and the tables with its term, or the limit that it passes.
-use Rattle.std.specs.Prelude.{ℕ, ◌+◌, ◌≤◌, ◌<◌, ◌≡◌, Bool, true, false, List, length}
+use Rattle.std.specs.Prelude.{ℕ, ◌+◌, ◌≤◌, ◌<◌, ◌≡◌, Bool, true, false, List, length, ⊤}
 use Rattle.model.specs.Lists.{fold_left}
 use Rattle.model.specs.Terms.{Node, add_term, references}
 use Rattle.model.specs.Lines.{Field}
@@ -12,16 +12,11 @@ use Rattle.model.specs.declared.Refusal.TheVariants as refusal
 use Rattle.text.specs.declared.Cursor.{Cursor}
 use Rattle.text.specs.Parts.{fields_left}
 use Rattle.names.specs.Table.{table_names}
-use Rattle.additions.specs.declared.Added.{Added}
-use Rattle.additions.specs.declared.Added.TheVariants as adds
+use Rattle.additions.specs.Additions.{Addition}
 use Rattle.words.specs.Slices.{SameBut}
 use Rattle.rules.specs.Views.{Tables, terms_in}
-use Rattle.nodes.specs.declared.Passed.{Passed}
-use Rattle.nodes.specs.declared.Passed.TheVariants as passed
-use Rattle.nodes.specs.declared.Quantifier.{Quantifier}
-use Rattle.nodes.specs.declared.Quantifier.TheVariants as quantified
-use Rattle.model.specs.declared.Step.{Step}
-use Rattle.model.specs.declared.Step.TheVariants as step
+use Rattle.model.specs.Steps.{Step}
+use Rattle.model.specs.Steps as step
 use Rattle.fields.specs.Pushing.{most_number, push_one, push_groups}
 use Rattle.fields.specs.Spelling.{name_columns, Longer}
 
@@ -41,23 +36,23 @@ push_quantifier count refs used fs = do
   end (refs₂, used₂, g) fs₃
 
 -- an answer as such a result
-unfoldable pub quantifier_result : List ℕ → Quantifier → Result (List ℕ × ℕ × ℕ)
-quantifier_result refs (quantified.Read used groups) = ok (refs, used, groups)
-quantifier_result refs (quantified.Refused r) = refused r
+unfoldable pub quantifier_result : List ℕ → Result (ℕ × ℕ) → Result (List ℕ × ℕ × ℕ)
+quantifier_result refs (ok (used, groups)) = ok (refs, used, groups)
+quantifier_result refs (refused r) = refused r
 
 -- what pushing a quantifier comes to
-pub record Quantifies (file refs refs' : List ℕ) (from many : ℕ) (c : Cursor) (r : Quantifier) : Type 0 where
+pub record Quantifies (file refs refs' : List ℕ) (from many : ℕ) (c : Cursor) (r : Result (ℕ × ℕ)) : Type 0 where
   pub answer : quantifier_result refs' r ≡ push_quantifier many refs from (fields_left file c)
-  pub groups : (used g : ℕ) → r ≡ quantified.Read used g → g ≤ most_number
+  pub groups : (used g : ℕ) → r ≡ ok (used, g) → g ≤ most_number
   pub kept : SameBut 0 most_references refs refs'
 
 -- ---- term lines
 
 -- the first limit that so many names and references pass, the names asked first
-pub data FirstPassed (named used : ℕ) : Passed → Type 0 where
-  by_names : most_names < named → FirstPassed named used (passed.Full refusal.FullNames)
-  by_references : named ≤ most_names → most_references < used → FirstPassed named used (passed.Full refusal.FullTerms)
-  by_none : named ≤ most_names → used ≤ most_references → FirstPassed named used passed.Nothing
+pub data WithinLimits (named used : ℕ) : Result ⊤ → Type 0 where
+  by_names : most_names < named → WithinLimits named used (refused refusal.FullNames)
+  by_references : named ≤ most_names → most_references < used → WithinLimits named used (refused refusal.FullTerms)
+  by_none : named ≤ most_names → used ≤ most_references → WithinLimits named used (ok tt)
 
 -- the counts with one term more
 unfoldable pub with_term : Counts → ℕ → ℕ → Counts
@@ -76,9 +71,9 @@ with_term k named used =
     }
 
 -- what adding a row comes to
-unfoldable pub grown_to : Added → Counts → ℕ → ℕ → Step
-grown_to adds.Done k named used = step.On (with_term k named used)
-grown_to adds.Full k named used = step.Refused refusal.FullTerms
+unfoldable pub grown_to : Addition → Counts → ℕ → ℕ → Step
+grown_to (ok tt) k named used = step.On (with_term k named used)
+grown_to (refused r) k named used = step.Refused r
 
 -- the two tables of the counts
 abbrev pub Stands : List ℕ → List ℕ → List ℕ → List ℕ → Counts → Type 0

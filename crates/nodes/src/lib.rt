@@ -7,92 +7,74 @@ ghost use Rattle.model.specs.declared.LineKind.TheVariants as kind;
 ghost use Rattle.text.specs.Parts.{Placed};
 ghost use Rattle.fields.specs.Wording.{term_kind};
 ghost use Rattle.fields.specs.Pushing.{Pushable};
-ghost use Rattle.nodes.specs.Growing.{Quantifies, quantifier_kind, FirstPassed, grown_to, Stands, ReadsTerm};
+ghost use Rattle.nodes.specs.Growing.{Quantifies, quantifier_kind, WithinLimits, grown_to, Stands, ReadsTerm};
 
-use additions::Added;
-use fields::{OpStep, TermKind, Upto, Word};
-use model::{Counts, Op, Refusal, Step};
-use text::{Cursor, NumberStep};
+use fields::TermKind;
+use model::{Counts, Op, Refusal};
+use text::Cursor;
 
-// Where the references of a quantifier end, and how many groups it has; or the refusal of a field.
-#[derive(Clone, Copy)]
-enum Quantifier {
-    Read(usize, usize),
-    Refused(Refusal),
-}
+// The file, the three tables and the counts stay loose parameters: a struct of lent slices costs a clause for each slice that a
+// function leaves as it was.
 
-// Pushes the body and the groups of an `all` or a `some`, after which no field is left.
-fn push_quantifier(file: &[u8], refs: &mut [u32], from: usize, many: usize, c: Cursor) -> Quantifier
+// Pushes the body and the groups of an `all` or a `some`, after which no field is left: where the references end then, and how
+// many groups there are.
+fn push_quantifier(
+    file: &[u8],
+    refs: &mut [u32],
+    from: usize,
+    many: usize,
+    c: Cursor,
+) -> Result<(usize, usize), Refusal>
     requires { Pushable file.now refs.old from many c }
     ensures { Quantifies file.now refs.old refs.new from many c result }
 {
-    match fields::push_term(file, refs, from, many, 0, c) {
-        Upto::At(one, next) => match next.number(file, text::MOST_NUMBER) {
-            NumberStep::Number(g, after) => {
-                match fields::push_groups(file, refs, one, many, g as usize, after) {
-                    Upto::At(used, last) => {
-                        if last.at <= last.end {
-                            return Quantifier::Refused(Refusal::Form);
-                        }
-                        Quantifier::Read(used, g as usize)
-                    }
-                    Upto::Refused(r) => Quantifier::Refused(r),
-                }
-            }
-            NumberStep::Refused(r) => Quantifier::Refused(r),
-        },
-        Upto::Refused(r) => Quantifier::Refused(r),
+    let (one, next) = fields::push_term(file, refs, from, many, 0, c)?;
+    let (groups, after) = next.number(file, text::MOST_NUMBER)?;
+    let (used, last) = fields::push_groups(file, refs, one, many, groups as usize, after)?;
+    if last.at <= last.end {
+        return Err(Refusal::Form);
     }
+    Ok((used, groups as usize))
 }
 
-// The refusal of the first limit that is passed; or none is.
-#[derive(Clone, Copy)]
-enum Passed {
-    Full(Refusal),
-    Nothing,
-}
-
-// Which limit so many names and references pass, the names asked first.
-fn first_passed(named: usize, used: usize) -> Passed
-    ensures { FirstPassed named used result }
+// The refusal of the limit that so many names and references pass, the names asked first.
+fn within_limits(named: usize, used: usize) -> Result<(), Refusal>
+    ensures { WithinLimits named used result }
 {
     if model::MOST_NAMES < named {
-        return Passed::Full(Refusal::FullNames);
+        return Err(Refusal::FullNames);
     }
     if model::MOST_REFERENCES < used {
-        return Passed::Full(Refusal::FullTerms);
+        return Err(Refusal::FullTerms);
     }
-    Passed::Nothing
+    Ok(())
 }
 
 // The counts with one term more, where its row was added.
-fn grown(added: Added, k: Counts, named: usize, used: usize) -> Step
+fn grown(
+    added: Result<(), Refusal>,
+    k: Counts,
+    named: usize,
+    used: usize,
+) -> Result<Counts, Refusal>
     requires { k.terms ≤ most_terms }
     ensures { result ≡ grown_to added k named used }
 {
-    match added {
-        Added::Done => {
-            let mut next = k;
-            next.names = named;
-            next.references = used;
-            next.terms = k.terms + 1;
-            Step::On(next)
-        }
-        Added::Full => Step::Refused(Refusal::FullTerms),
-    }
+    added?;
+    Ok(Counts {
+        names: named,
+        references: used,
+        terms: k.terms + 1,
+        ..k
+    })
 }
 
 // The number of an op word.
+#[tactic(auto, unfolding(model::specs::Summaries::op_number))]
 fn op_number(op: Op) -> usize
     ensures { result ≡ op_number op }
 {
-    match op {
-        Op::TrueOp => 0,
-        Op::Iff => 1,
-        Op::Eq => 2,
-        Op::And => 3,
-        Op::Other => 4,
-    }
+    op as usize
 }
 
 // Reads a `free`, from its name on.
@@ -103,29 +85,23 @@ fn read_free(
     rows: &mut [u32],
     k: Counts,
     c: Cursor,
-) -> Step
+) -> Result<Counts, Refusal>
     requires { Stands file.now names.old refs.now rows.old k × Placed file.now c }
     ensures { ReadsTerm file.now names.old refs.now rows.old
         names.new refs.now rows.new k kind.Free c result }
 {
-    let used = k.references;
-    match fields::read_name(file, names, k.names, c) {
-        Word::Name(n, named, next) => {
-            if next.at <= next.end {
-                return Step::Refused(Refusal::Form);
-            }
-            if let Passed::Full(r) = first_passed(named, used) {
-                return Step::Refused(r);
-            }
-            grown(
-                additions::add_free(refs, rows, used, k.terms, named, n),
-                k,
-                named,
-                used,
-            )
-        }
-        Word::Refused(r) => Step::Refused(r),
+    let (n, named, next) = fields::read_name(file, names, k.names, c)?;
+    if next.at <= next.end {
+        return Err(Refusal::Form);
     }
+    let used = k.references;
+    within_limits(named, used)?;
+    grown(
+        additions::add_free(refs, rows, used, k.terms, named, n),
+        k,
+        named,
+        used,
+    )
 }
 
 // Reads a `leaf`, which has no field after its kind.
@@ -136,16 +112,16 @@ fn read_leaf(
     rows: &mut [u32],
     k: Counts,
     c: Cursor,
-) -> Step
+) -> Result<Counts, Refusal>
     requires { Stands file.now names.now refs.now rows.old k × Placed file.now c }
     ensures { ReadsTerm file.now names.now refs.now rows.old
         names.now refs.now rows.new k kind.Leaf c result }
 {
+    if c.at <= c.end {
+        return Err(Refusal::Form);
+    }
     let used = k.references;
     let named = k.names;
-    if c.at <= c.end {
-        return Step::Refused(Refusal::Form);
-    }
     grown(
         additions::add_leaf(refs, rows, used, k.terms, named),
         k,
@@ -154,7 +130,7 @@ fn read_leaf(
     )
 }
 
-// Reads a `call`, from its name on.
+// Reads a `call`, from its name on. Each kind adds its row by its own function, whose contract names the node that it is.
 fn read_call(
     file: &[u8],
     names: &mut [u32],
@@ -162,30 +138,22 @@ fn read_call(
     rows: &mut [u32],
     k: Counts,
     c: Cursor,
-) -> Step
+) -> Result<Counts, Refusal>
     requires { Stands file.now names.old refs.old rows.old k × Placed file.now c }
     ensures { ReadsTerm file.now names.old refs.old rows.old
         names.new refs.new rows.new k kind.Call c result }
 {
     let start = k.references;
     let many = k.terms;
-    match fields::read_name(file, names, k.names, c) {
-        Word::Name(n, named, next) => match fields::push_rest(file, refs, start, many, next) {
-            Upto::At(used, _) => {
-                if let Passed::Full(r) = first_passed(named, used) {
-                    return Step::Refused(r);
-                }
-                grown(
-                    additions::add_call(refs, rows, start, used, many, named, n),
-                    k,
-                    named,
-                    used,
-                )
-            }
-            Upto::Refused(r) => Step::Refused(r),
-        },
-        Word::Refused(r) => Step::Refused(r),
-    }
+    let (n, named, next) = fields::read_name(file, names, k.names, c)?;
+    let (used, _) = fields::push_rest(file, refs, start, many, next)?;
+    within_limits(named, used)?;
+    grown(
+        additions::add_call(refs, rows, start, used, many, named, n),
+        k,
+        named,
+        used,
+    )
 }
 
 // Reads an `op`, from its word on.
@@ -196,7 +164,7 @@ fn read_op(
     rows: &mut [u32],
     k: Counts,
     c: Cursor,
-) -> Step
+) -> Result<Counts, Refusal>
     requires { Stands file.now names.now refs.old rows.old k × Placed file.now c }
     ensures { ReadsTerm file.now names.now refs.old rows.old
         names.now refs.new rows.new k kind.Op c result }
@@ -204,24 +172,16 @@ fn read_op(
     let start = k.references;
     let many = k.terms;
     let named = k.names;
-    match fields::read_op_word(file, c) {
-        OpStep::Is(op, next) => match fields::push_rest(file, refs, start, many, next) {
-            Upto::At(used, _) => {
-                if let Passed::Full(r) = first_passed(named, used) {
-                    return Step::Refused(r);
-                }
-                let word = op_number(op);
-                grown(
-                    additions::add_op(refs, rows, start, used, many, named, word),
-                    k,
-                    named,
-                    used,
-                )
-            }
-            Upto::Refused(r) => Step::Refused(r),
-        },
-        OpStep::Refused(r) => Step::Refused(r),
-    }
+    let (op, next) = fields::read_op_word(file, c)?;
+    let (used, _) = fields::push_rest(file, refs, start, many, next)?;
+    within_limits(named, used)?;
+    let word = op_number(op);
+    grown(
+        additions::add_op(refs, rows, start, used, many, named, word),
+        k,
+        named,
+        used,
+    )
 }
 
 // Reads an `all`, or else a `some`, from its body on.
@@ -233,7 +193,7 @@ fn read_quantifier(
     k: Counts,
     all: bool,
     c: Cursor,
-) -> Step
+) -> Result<Counts, Refusal>
     requires { Stands file.now names.now refs.old rows.old k × Placed file.now c }
     ensures { ReadsTerm file.now names.now refs.old rows.old
         names.now refs.new rows.new k (quantifier_kind all) c result }
@@ -241,28 +201,22 @@ fn read_quantifier(
     let start = k.references;
     let many = k.terms;
     let named = k.names;
-    match push_quantifier(file, refs, start, many, c) {
-        Quantifier::Read(used, groups) => {
-            if let Passed::Full(r) = first_passed(named, used) {
-                return Step::Refused(r);
-            }
-            if all {
-                return grown(
-                    additions::add_all(refs, rows, start, used, many, named, groups),
-                    k,
-                    named,
-                    used,
-                );
-            }
-            grown(
-                additions::add_some(refs, rows, start, used, many, named, groups),
-                k,
-                named,
-                used,
-            )
-        }
-        Quantifier::Refused(r) => Step::Refused(r),
+    let (used, groups) = push_quantifier(file, refs, start, many, c)?;
+    within_limits(named, used)?;
+    if all {
+        return grown(
+            additions::add_all(refs, rows, start, used, many, named, groups),
+            k,
+            named,
+            used,
+        );
     }
+    grown(
+        additions::add_some(refs, rows, start, used, many, named, groups),
+        k,
+        named,
+        used,
+    )
 }
 
 // Reads a `let`, from its body on.
@@ -273,7 +227,7 @@ fn read_let(
     rows: &mut [u32],
     k: Counts,
     c: Cursor,
-) -> Step
+) -> Result<Counts, Refusal>
     requires { Stands file.now names.now refs.old rows.old k × Placed file.now c }
     ensures { ReadsTerm file.now names.now refs.old rows.old
         names.now refs.new rows.new k kind.Let c result }
@@ -281,23 +235,15 @@ fn read_let(
     let start = k.references;
     let many = k.terms;
     let named = k.names;
-    match fields::push_term(file, refs, start, many, 0, c) {
-        Upto::At(one, next) => match fields::push_rest(file, refs, one, many, next) {
-            Upto::At(used, _) => {
-                if let Passed::Full(r) = first_passed(named, used) {
-                    return Step::Refused(r);
-                }
-                grown(
-                    additions::add_let(refs, rows, start, used, many, named),
-                    k,
-                    named,
-                    used,
-                )
-            }
-            Upto::Refused(r) => Step::Refused(r),
-        },
-        Upto::Refused(r) => Step::Refused(r),
-    }
+    let (one, next) = fields::push_term(file, refs, start, many, 0, c)?;
+    let (used, _) = fields::push_rest(file, refs, one, many, next)?;
+    within_limits(named, used)?;
+    grown(
+        additions::add_let(refs, rows, start, used, many, named),
+        k,
+        named,
+        used,
+    )
 }
 
 // Reads a `label`, from its term on.
@@ -308,7 +254,7 @@ fn read_label(
     rows: &mut [u32],
     k: Counts,
     c: Cursor,
-) -> Step
+) -> Result<Counts, Refusal>
     requires { Stands file.now names.now refs.old rows.old k × Placed file.now c }
     ensures { ReadsTerm file.now names.now refs.old rows.old
         names.now refs.new rows.new k kind.Label c result }
@@ -316,24 +262,18 @@ fn read_label(
     let start = k.references;
     let many = k.terms;
     let named = k.names;
-    match fields::push_term(file, refs, start, many, 0, c) {
-        Upto::At(_, next) => {
-            if next.at <= next.end {
-                return Step::Refused(Refusal::Form);
-            }
-            let used = start + 1;
-            if let Passed::Full(r) = first_passed(named, used) {
-                return Step::Refused(r);
-            }
-            grown(
-                additions::add_label(refs, rows, start, many, named),
-                k,
-                named,
-                used,
-            )
-        }
-        Upto::Refused(r) => Step::Refused(r),
+    let (_, next) = fields::push_term(file, refs, start, many, 0, c)?;
+    if next.at <= next.end {
+        return Err(Refusal::Form);
     }
+    let used = start + 1;
+    within_limits(named, used)?;
+    grown(
+        additions::add_label(refs, rows, start, many, named),
+        k,
+        named,
+        used,
+    )
 }
 
 // Reads a term line of a kind, from the first field after the kind on.
@@ -345,7 +285,7 @@ pub fn read_term(
     k: Counts,
     kind: TermKind,
     c: Cursor,
-) -> Step
+) -> Result<Counts, Refusal>
     requires { Stands file.now names.old refs.old rows.old k × Placed file.now c }
     ensures { ReadsTerm file.now names.old refs.old rows.old
         names.new refs.new rows.new k (term_kind kind) c result }

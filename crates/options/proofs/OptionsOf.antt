@@ -1,5 +1,5 @@
 -- The options, and whether a group is admitted, by division and remainder.
-use Prim.Native.Nat.{ℕ, zero, suc, ◌-◌, ◌/◌, ◌%◌, ◌≤◌, ◌<◌}
+use Prim.Native.Nat.{ℕ, zero, suc, ◌+◌, ◌-◌, ◌/◌, ◌%◌, ◌≤◌, ◌<◌}
 use native.Mathlib.Omega.{arith}
 use mathlib.Core.Path.{◌≡◌, refl, sym, ◌∙◌}
 use mathlib.Core.List.{List, []}
@@ -28,11 +28,18 @@ pub options_add : (n : ℕ) → n ≤ most_options → options_value (taken_apar
 unfolding options_value no_ambients pretyping_axioms prune_decls follow_bodies
 options_add n h = options_sum (asks [] n 0) h
 
+-- no halving
+pub halved_none : (left group : ℕ) → option_at (group - 0) left ≡ option_at group left
+halved_none left group =
+    let none : group - 0 ≡ group = omega arith in
+    rw none refl
+
 -- one halving more
-pub halved : (left i : ℕ) → 0 < i → option_at (i - 1) (left / 2) ≡ option_at i left
+pub halved : (left group n : ℕ) → n < group → option_at (group - (n + 1)) (left / 2) ≡ option_at (group - n) left
 unfolding option_at
-halved left zero h = absurd (let none : ⊥ = omega arith in none)
-halved left (suc i) h = let one : suc i - 1 ≡ i = omega arith in rw one
+halved left group n h =
+    let one : group - n ≡ suc (group - (n + 1)) = omega arith in
+    rw one
 
 -- the last: what remains by 2 tells
 pub admits_is : (groups group left i : ℕ) → option_at i left ≡ option_at group groups → i ≤ 0

@@ -32,10 +32,8 @@ pub fn admits(groups: usize, group: usize) -> bool
     ensures { (qs : List ℕ) (os : ℕ) → result ≡ admits (asks qs os groups) group }
 {
     let mut left = groups;
-    let mut i = group;
-    while 0 < i {
+    for _ in 0..group {
         left = left / 2;
-        i -= 1;
     }
     left % 2 == 1
 }

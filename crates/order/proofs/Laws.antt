@@ -12,7 +12,6 @@ use Rattle.rows.proofs.Leaving.{rows_listed, slices_left}
 use Rattle.precedence.specs.Call.{check_in_numbers, rows_of_check, FoundRows}
 use Rattle.precedence.specs.declared.Late.{Late}
 use Rattle.precedence.proofs.Call.{ordered_count}
-use Rattle.order.specs.Call.{Exact}
 use Rattle.order.specs.Demands.{KeptPromise}
 use Rattle.order.proofs.Demands.{promise}
 
@@ -26,27 +25,7 @@ unfolding rows_of_check table_after
 table_told (refusal_at r place) table = refl
 table_told (listed_rows rs) table = refl
 
--- what the call leaves
-exact_call : {file : List ℕ} {lent held : Working} {table table' : List Row} {r : Late} {run : List ℕ}
-    → FoundRows file lent (length table) r held → table' ≡ rows_held r.rows held.run ++ drop r.rows table
-    → Zeroed 0 (2 * r.rows) held.run run
-    → Exact (record {
-      file = file;
-      lent = lent;
-      table = table;
-      answer = r;
-      left = six held.names held.refs held.rows held.recs held.lists run;
-      table' = table';
-    })
-exact_call {table} found written zeroed =
-    let number = ap (λ (a : Late). a.rows) found.told ∙ rows_number _ in
-    record {
-      answered = found.told;
-      table = rows_listed number found.left table written ∙ table_told _ table;
-      slices = slices_left number found.left zeroed;
-    }
-
--- and so what it promises
+-- what the call promises
 pub called : {file : List ℕ} {lent held : Working} {table table' : List Row} {r : Late} {run : List ℕ}
     → FoundRows file lent (length table) r held → table' ≡ rows_held r.rows held.run ++ drop r.rows table
     → Zeroed 0 (2 * r.rows) held.run run
@@ -58,4 +37,10 @@ pub called : {file : List ℕ} {lent held : Working} {table table' : List Row} {
       left = six held.names held.refs held.rows held.recs held.lists run;
       table' = table';
     })
-called found written zeroed = promise _ (exact_call found written zeroed)
+called {table = table} found written zeroed =
+    let number = ap (λ (a : Late). a.rows) found.told ∙ rows_number _ in
+    promise _ (record {
+      answered = found.told;
+      table = rows_listed number found.left table written ∙ table_told _ table;
+      slices = slices_left number found.left zeroed;
+    })

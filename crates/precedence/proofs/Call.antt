@@ -1,11 +1,11 @@
 -- What the core tells and leaves: a refusal of the front, 8, or the rows in words of the run's slice.
-use Prim.Native.Nat.{ℕ, ◌+◌, ◌*◌, ◌-◌, ◌≤◌, ◌<◌}
+use Prim.Native.Nat.{ℕ, ◌*◌, ◌-◌, ◌≤◌, ◌<◌}
 use native.Mathlib.Omega.{arith}
 use mathlib.Core.Path.{◌≡◌, refl, sym, ◌∙◌, ap}
 use mathlib.Core.Bool.{Bool, true, false, cond}
 use mathlib.Core.List.{List, [], ◌∷◌, ◌++◌}
 use lib.Dec.{eqb}
-use lib.ListN.{length, get_or}
+use lib.ListN.{length}
 use borrow.Author.Tests.{le-leb, lt-leb}
 use Rattle.model.specs.Lists.{collect}
 use Rattle.model.specs.Reading.{most_uses}
@@ -17,7 +17,7 @@ use Rattle.model.specs.declared.Ordered.{Ordered}
 use Rattle.model.specs.declared.Refusal.{Refusal}
 use Rattle.model.specs.declared.Refusal.TheVariants as refusal
 use Rattle.model.specs.declared.Row.{Row}
-use Rattle.model.specs.declared.Verdict.TheVariants.{Accepted, Refused}
+use Rattle.model.specs.declared.Verdict.TheVariants.{Accepted}
 use Rattle.demands.proofs.Precedence.{late_rows_bound}
 use Rattle.demands.proofs.Checking.{open_check, stopped_check}
 use Rattle.words.specs.Slices.{SameBut, Zeroed}
@@ -25,7 +25,6 @@ use Rattle.words.proofs.Slices.{same_then, same_wider}
 use Rattle.records.specs.Columns.{record_kind, def_kind}
 use Rattle.records.specs.States.{uses_at}
 use Rattle.macros.specs.Macros.{Filled}
-use Rattle.front.specs.Demand.{verdict_number}
 use Rattle.front.specs.Opening.{Long, Rest, Zeros, TablesZero, state_in, OpenFile, RefusedFile}
 use Rattle.front.proofs.Slices.{rest_long, rest_then, slice_cleared, works_cleared, zeros_rest, left_cleared}
 use Rattle.front.proofs.Laws.{open_read, rest_work}
@@ -37,10 +36,13 @@ use Rattle.prune.specs.Listing.{from, is_among}
 use Rattle.prune.proofs.Writing.{column_same}
 use Rattle.prune.proofs.Rows.{rows_count, rows_words_put}
 use Rattle.prune.proofs.Linking.{index_filled}
+use Rattle.std.specs.Prelude.{Option, None, Some}
+use Rattle.names.specs.Table.{ranked}
+use Rattle.precedence.specs.declared.Sort.{Sort}
 use Rattle.precedence.specs.Sorts.{late_at, sorted_row, rank_row, body_rows, def_rows, all_late}
 use Rattle.precedence.specs.Call.{rows_of_check, LatePut, LateTables, ListsRows, Orders, FoundRows, check_in_numbers}
 use Rattle.precedence.specs.declared.Late.{Late}
-use Rattle.precedence.proofs.Sorts.{late_bound}
+use Rattle.precedence.proofs.Sorts.{sort_small}
 use Rattle.precedence.proofs.Listing.{late_is}
 
 -- ---- the third numbers are small
@@ -56,14 +58,11 @@ small_collect rows (r ∷ l) h = small_append (rows r) (collect rows l) (h r) (s
 
 rank_small : (names recs : List ℕ) (free : ℕ → Bool) (i r : ℕ) → Small (rank_row names recs free i r)
 unfolding rank_row sorted_row
-rank_small names recs free i r = go (late_at names recs free i n) (late_bound names recs free i n refl) (eqb (late_at names recs free i n) 0)
+rank_small names recs free i r = go (late_at names recs free i (ranked names r))
   where
-    n : ℕ
-    n = get_or names (4096 + r) 0
-
-    go : (s : ℕ) → s ≤ 2 → (b : Bool) → Small (cond b [] (record { line = get_or recs (1024 + i) 0; number = n; cause = s } ∷ []))
-    go s h true = tt
-    go s h false = (omega arith, tt)
+    go : (s : Option Sort) → Small (sorted_row recs i (ranked names r) s)
+    go None = tt
+    go (Some s) = let l = sort_small s in (omega arith, tt)
 
 def_small : (names recs lists : List ℕ) (named i : ℕ) → Small (def_rows names recs lists named i)
 unfolding def_rows body_rows
@@ -146,17 +145,7 @@ fitting_short : (rs : List Row) (room : ℕ) → room < length rs → rows_fitti
 unfolding rows_fitting
 fitting_short rs room h = rw (lt-leb (length rs) room h)
 
--- a refused answer
-pub refused_is : (r : Refusal) (place : ℕ) → record { verdict = Refused r; place = place; rows = 0 } ≡ ordered (refusal_at r place)
-unfolding ordered
-refused_is r place = refl
-
--- an answer in numbers
-pub numbers_are : (o : Ordered) {n : ℕ} → n ≡ verdict_number o.verdict → record { refusal = n; place = o.place; rows = o.rows } ≡ check_in_numbers o
-unfolding check_in_numbers
-numbers_are o e = rw e
-
--- it has no rows
+-- a refused answer has no rows
 no_rows : (r : Refusal) (place : ℕ) → (ordered (refusal_at r place)).rows ≡ 0
 unfolding ordered
 no_rows r place = refl

@@ -6,7 +6,7 @@ use mathlib.Core.Path.{◌≡◌, refl, sym, ap, ap₂, ◌∙◌}
 use mathlib.Core.Logic.{⊎_elim}
 use mathlib.Core.Bool.{Bool, true, false, cond, not, ◌||◌}
 use mathlib.Core.List.{List, [], ◌∷◌, ◌++◌, map}
-use mathlib.Core.Option.{Option, none, some}
+use Rattle.std.specs.Prelude.{Option, None as none, Some as some, None, Some}
 use lib.Dec.{T, eqb, leb, ltb}
 use borrow.Author.Tests.{eq-eqb, ne_eqb, ltb-true, ltb-false, le-leb, lt-leb}
 use Rattle.model.specs.Lists.{any, keep, collect, is_nil, to_list, when, ◌>>=◌}
@@ -32,27 +32,26 @@ use Rattle.prune.proofs.Filed.{fun_at, definitions_are}
 use Rattle.prune.proofs.Picking.{kind_none, kind_not, kind_is}
 use Rattle.prune.proofs.Takers.{one_zero, one_suc}
 use Rattle.prune.proofs.Linking.{number_is, by_rank, in_all, free_has, def_found, fun_found}
-use Rattle.precedence.specs.Sorts.{sort_at, late_at, sorted_row, rank_row, body_rows, def_rows, all_late}
+use Rattle.precedence.specs.declared.Sort.{Sort}
+use Rattle.precedence.specs.declared.Sort.TheVariants.{Late, Neither}
+use Rattle.precedence.specs.Sorts.{sort_number, sort_at, late_at, sorted_row, rank_row, body_rows, def_rows, all_late}
 
 -- ---- tests
 
--- the option of a sort: none of 0
-abbrev sort_option : ℕ → Option ℕ
-sort_option s = cond (eqb s 0) none (some s)
+-- the number of a sort, if there is one
+abbrev sort_option : Option Sort → Option ℕ
+sort_option None = none
+sort_option (Some s) = some (sort_number s)
 
 -- the row by the sort is that of the option
-sorted_option : (recs : List ℕ) (i n s number : ℕ) → number ≡ n
+sorted_option : (recs : List ℕ) (i n number : ℕ) (s : Option Sort) → number ≡ n
     → to_list {A = Row} (sort_option s >>= λ (k : ℕ). some (record { line = record_line recs i; number = number; cause = k })) ≡ sorted_row recs i n s
 unfolding to_list sorted_row
-sorted_option recs i n s number e = rw e (go (eqb s 0))
-  where
-    go : (b : Bool) → to_list {A = Row} (cond b none (some s) >>= λ (k : ℕ). some (record { line = record_line recs i; number = n; cause = k }))
-        ≡ cond b [] (record { line = record_line recs i; number = n; cause = s } ∷ [])
-    go true = refl
-    go false = refl
+sorted_option recs i n number None e = refl
+sorted_option recs i n number (Some s) e = rw e
 
--- no row by 0
-sorted_none : (recs : List ℕ) (i n : ℕ) → [] ≡ sorted_row recs i n 0
+-- no row without a sort
+sorted_none : (recs : List ℕ) (i n : ℕ) → [] ≡ sorted_row recs i n None
 unfolding sorted_row
 sorted_none recs i n = refl
 
@@ -73,11 +72,11 @@ sort_nothing ps d n e = rw e
 
 -- one part
 sort_single : (ps : List Decl) (d p : Decl) (n : Name) → keep (λ p. same p.name n) ps ≡ p ∷ []
-    → sort_of ps d n ≡ sort_option (cond (ltb p.line d.line) 0 1)
-unfolding sort_of is_nil any when
+    → sort_of ps d n ≡ sort_option (cond (ltb p.line d.line) None (Some Late))
+unfolding sort_of is_nil any when sort_number
 sort_single ps d p n e = rw e (go (leb d.line p.line) (ltb p.line d.line) (leb_ltb d.line p.line))
   where
-    go : (b c : Bool) → b ≡ not c → when (b || false) 1 ≡ sort_option (cond c 0 1)
+    go : (b c : Bool) → b ≡ not c → when (b || false) 1 ≡ sort_option (cond c None (Some Late))
     go true true e = absurd (let z : ◌≡◌ {A = ℕ} (cond true 0 1) (cond (not true) 0 1) = ap (λ (b : Bool). cond b 0 1) e in omega arith)
     go true false e = refl
     go false true e = refl
@@ -121,11 +120,12 @@ module _ {file names recs lists : List ℕ} {k : Counts} (x : Filled file names 
 
   -- the sort of the name of a rank
   sort_is : (i r : ℕ) → r < k.names → sort_of ps (def i) (rank_name r) ≡ sort_option (sort_at names recs i (ranked names r))
-  unfolding sort_at decl_at
+  unfolding sort_at decl_at sort_number
   sort_is i r h = go (taker names r) refl
     where
       go : (t : ℕ) → taker names r ≡ t → sort_of ps (def i) (rank_name r)
-          ≡ sort_option (cond (eqb t 0) 2 (cond (eqb (record_kind recs (t - 1)) assume_kind) 2 (cond (ltb (record_line recs (t - 1)) (record_line recs i)) 0 1)))
+          ≡ sort_option (cond (eqb t 0) (Some Neither) (cond (eqb (record_kind recs (t - 1)) assume_kind) (Some Neither)
+          (cond (ltb (record_line recs (t - 1)) (record_line recs i)) None (Some Late))))
       go zero e =
           sort_nothing ps (def i) (rank_name r)
           (part_found r h ∙ ap₂ (λ (a b : List ℕ). map def a ++ map (fun_at name recs lists) b) (kind_zero def_kind r e) (kind_zero fun_kind r e))
@@ -190,10 +190,10 @@ module _ {file names recs lists : List ℕ} {k : Counts} (x : Filled file names 
       there r = is_among (ranked names r) (uses_at recs lists i)
 
       each : (r : ℕ) → r < k.names → (b : Bool)
-          → cond b (row (rank_name r)) [] ≡ sorted_row recs i (ranked names r) (cond b (sort_at names recs i (ranked names r)) 0)
+          → cond b (row (rank_name r)) [] ≡ sorted_row recs i (ranked names r) (cond b (sort_at names recs i (ranked names r)) None)
       each r l true =
           rw (sort_is i r l)
-          (sorted_option recs i (ranked names r) (sort_at names recs i (ranked names r)) (name_number (table_names file names k.names) (rank_name r))
+          (sorted_option recs i (ranked names r) (name_number (table_names file names k.names) (rank_name r)) (sort_at names recs i (ranked names r))
           (number_is x (ranked names r) (x.table.numbers r l)))
       each r l false = sorted_none recs i (ranked names r)
 

@@ -17,7 +17,9 @@ use Rattle.records.specs.Columns.{record_line}
 use Rattle.prune.specs.Loops.{Index, Readable, Behind}
 use Rattle.prune.specs.Rows.{RowsBehind}
 use Rattle.prune.proofs.Rows.{RowsTo, rows_start, rows_next, rows_none, rows_room, rows_end, one_row}
-use Rattle.precedence.specs.Sorts.{late_at, sorted_row, rank_row, body_rows, def_rows, all_late}
+use Rattle.std.specs.Prelude.{Option, None, Some}
+use Rattle.precedence.specs.Sorts.{sort_number, late_at, sorted_row, rank_row, body_rows, def_rows, all_late}
+use Rattle.precedence.specs.declared.Sort.{Sort}
 use Rattle.precedence.specs.Loops.{StampedTo}
 use Rattle.precedence.specs.Call.{LatePut}
 use Rattle.precedence.proofs.Sorts.{row_none, row_one}
@@ -38,31 +40,33 @@ readable {names} {recs} {named} {r} {n} x room h e =
 
 -- ---- the ranks of a def
 
-module _ (names recs : List ℕ) (free : ℕ → Bool) (i : ℕ) {w : List ℕ} {m named : ℕ} {v : List ℕ} {to r n x : ℕ}
-    (s : RowsTo w m (rank_row names recs free i) named v to r) (h : r < named) (e : n ≡ ranked names r)
-    (q : x ≡ late_at names recs free i n) where
+module _ (names recs : List ℕ) (free : ℕ → Bool) (i : ℕ) {w : List ℕ} {m named : ℕ} {v : List ℕ} {to r n : ℕ} {s : Option Sort}
+    (t : RowsTo w m (rank_row names recs free i) named v to r) (h : r < named) (e : n ≡ ranked names r)
+    (q : s ≡ late_at names recs free i n) where
   -- the row of a rank, by its sort
-  rank_is : rank_row names recs free i r ≡ sorted_row recs i n x
+  rank_is : rank_row names recs free i r ≡ sorted_row recs i n s
   unfolding rank_row
   rank_is = rw (← e, ← q)
 
   -- a rank passed
-  pub rank_passed : x ≡ 0 → RowsTo w m (rank_row names recs free i) named v to (r + 1)
-  rank_passed z = rows_none s h (rank_is ∙ row_none recs i n x z)
+  pub rank_passed : s ≡ None → RowsTo w m (rank_row names recs free i) named v to (r + 1)
+  rank_passed z = rows_none t h (rank_is ∙ row_none recs i n z)
 
-  module _ (z : x ≡ 0 → ⊥) where
-    rank_one : rank_row names recs free i r ≡ record { line = record_line recs i; number = n; cause = x } ∷ []
-    rank_one = rank_is ∙ row_one recs i n x z
+  module _ {sort : Sort} (z : s ≡ Some sort) where
+    rank_one : rank_row names recs free i r ≡ record { line = record_line recs i; number = n; cause = sort_number sort } ∷ []
+    rank_one = rank_is ∙ row_one recs i n z
 
     -- its row put
-    pub rank_put : {u : List ℕ} {line : ℕ} → line ≡ record_line recs i → u ≡ set (set v (2 * to) line) (2 * to + 1) (pair n x)
+    pub rank_put : {u : List ℕ} {line c : ℕ} → line ≡ record_line recs i → c ≡ sort_number sort
+        → u ≡ set (set v (2 * to) line) (2 * to + 1) (pair n c)
         → RowsTo w m (rank_row names recs free i) named u (to + 1) (r + 1)
-    rank_put {u} l p = rows_next s h (rw rank_one (one_row v to (record { line = record_line recs i; number = n; cause = x }) (p ∙ rw l)))
+    rank_put {u} l d p =
+        rows_next t h (rw rank_one (one_row v to (record { line = record_line recs i; number = n; cause = sort_number sort }) (p ∙ rw (l, d))))
 
     -- there is room for it
     pub rank_room : m + length (body_rows names recs free named i) ≤ most_uses → to < most_uses
     unfolding body_rows
-    rank_room f = let a = rows_room s h {most = most_uses} f in let b = ap length rank_one in omega arith
+    rank_room f = let a = rows_room t h {most = most_uses} f in let b = ap length rank_one in omega arith
 
 -- all ranks gone over
 pub ranks_end : (names recs : List ℕ) (free : ℕ → Bool) (i : ℕ) {w : List ℕ} {m named : ℕ} {v : List ℕ} {to r : ℕ}

@@ -75,19 +75,17 @@ module _ (refs ns : List ℕ) (i : ℕ) (below : StampsBelow refs i) (room : wor
 
 -- the names from j on are left
 pub record StampTo (lists refs₀ : List ℕ) (s a e : ℕ) (refs : List ℕ) (j : ℕ) : Type 0 where
-  pub low : a ≤ j
   pub left : stamps s refs₀ (part lists a e) ≡ stamps s refs (part lists j e)
   pub same_length : length refs ≡ length refs₀
 
 pub stamp_start : (lists refs : List ℕ) (s a e : ℕ) → StampTo lists refs s a e refs a
-stamp_start lists refs s a e = record { low = omega arith; left = refl; same_length = refl }
+stamp_start lists refs s a e = record { left = refl; same_length = refl }
 
 pub stamp_next : {lists refs₀ : List ℕ} {s a e : ℕ} {refs : List ℕ} {j n : ℕ} → StampTo lists refs₀ s a e refs j → j < e → e ≤ length lists
     → n ≡ get_or lists j 0 → StampTo lists refs₀ s a e (set refs n s) (j + 1)
 unfolding stamps
 stamp_next {lists} {refs₀} {s} {a} {e} {refs} {j} {n} g h room q =
     record {
-      low = omega (arith, g.low);
       left = g.left ∙ ap (stamps s refs) (part_cons lists j e h room) ∙ ap (λ (m : ℕ). stamps s (set refs m s) (part lists (j + 1) e)) (sym q);
       same_length = length-set refs n s ∙ g.same_length;
     }

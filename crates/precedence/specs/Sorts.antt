@@ -1,5 +1,5 @@
 -- The rows of the check on numbers: the defs by record, for each the names of its body by rank, a name's place in byte order.
-use Rattle.std.specs.Prelude.{ℕ, ◌+◌, ◌-◌, Bool, cond, List, [], ◌∷◌, eqb, ltb, get_or, set}
+use Rattle.std.specs.Prelude.{ℕ, ◌+◌, ◌-◌, Bool, cond, List, [], ◌∷◌, eqb, ltb, get_or, set, Option, None, Some}
 use Rattle.model.specs.Lists.{collect}
 use Rattle.model.specs.declared.Counts.{Counts}
 use Rattle.model.specs.declared.Row.{Row}
@@ -7,22 +7,31 @@ use Rattle.names.specs.Table.{ranked}
 use Rattle.records.specs.Columns.{record_kind, record_line, assume_kind, def_kind, taken_at}
 use Rattle.records.specs.States.{uses_at}
 use Rattle.prune.specs.Listing.{from, is_among}
+use Rattle.precedence.specs.declared.Sort.{Sort}
+use Rattle.precedence.specs.declared.Sort.TheVariants.{Late, Neither}
 
--- the sort of a name that is free in the body of the def i: 1 where its def or fun stands on the same or a later line, 2 where
--- it has neither; 0 where it stands before
-unfoldable pub sort_at : List ℕ → List ℕ → ℕ → ℕ → ℕ
+-- the third number of the rows of a sort
+unfoldable pub sort_number : Sort → ℕ
+sort_number Late = 1
+sort_number Neither = 2
+
+-- the sort of a name that is free in the body of the def i: late where its def or fun stands on the same or a later line,
+-- neither where it has neither; none where it stands before
+unfoldable pub sort_at : List ℕ → List ℕ → ℕ → ℕ → Option Sort
 sort_at names recs i n =
     let t = taken_at names n in
-    cond (eqb t 0) 2
-    (cond (eqb (record_kind recs (t - 1)) assume_kind) 2 (cond (ltb (record_line recs (t - 1)) (record_line recs i)) 0 1))
+    cond (eqb t 0) (Some Neither)
+    (cond (eqb (record_kind recs (t - 1)) assume_kind) (Some Neither)
+    (cond (ltb (record_line recs (t - 1)) (record_line recs i)) None (Some Late)))
 
--- the same of any name; 0 too where it is not free in the body
-unfoldable pub late_at : List ℕ → List ℕ → (ℕ → Bool) → ℕ → ℕ → ℕ
-late_at names recs free i n = cond (free n) (sort_at names recs i n) 0
+-- the same of any name; none too where it is not free in the body
+unfoldable pub late_at : List ℕ → List ℕ → (ℕ → Bool) → ℕ → ℕ → Option Sort
+late_at names recs free i n = cond (free n) (sort_at names recs i n) None
 
--- the row of a def and a name by the sort; none by 0
-unfoldable pub sorted_row : List ℕ → ℕ → ℕ → ℕ → List Row
-sorted_row recs i n s = cond (eqb s 0) [] (record { line = record_line recs i; number = n; cause = s } ∷ [])
+-- the row of a def and a name by the sort; none without one
+unfoldable pub sorted_row : List ℕ → ℕ → ℕ → Option Sort → List Row
+sorted_row recs i n None = []
+sorted_row recs i n (Some s) = record { line = record_line recs i; number = n; cause = sort_number s } ∷ []
 
 -- that of a rank
 unfoldable pub rank_row : List ℕ → List ℕ → (ℕ → Bool) → ℕ → ℕ → List Row

@@ -1,5 +1,5 @@
 // What must come before what: the rows of the check over all def lines, put into words of the run's slice, and the core of its
-// call.
+// call. The six lent slices are parameters of their own, as in `filter`.
 #![tactic(auto)]
 
 ghost use Rattle.std.specs.Prelude.{◌+◌, ◌*◌, ◌≤◌, ◌<◌, ◌≡◌, length};
@@ -11,11 +11,11 @@ ghost use Rattle.records.specs.States.{uses_at};
 ghost use Rattle.records.specs.Filing.{Records};
 ghost use Rattle.prune.specs.Loops.{Index, Readable};
 ghost use Rattle.prune.specs.Rows.{RowsBehind};
-ghost use Rattle.precedence.specs.Sorts.{sort_at, late_at, body_rows, def_rows, all_late, has_stamp, stamps};
+ghost use Rattle.precedence.specs.Sorts.{sort_number, sort_at, late_at, body_rows, def_rows, all_late, has_stamp, stamps};
 ghost use Rattle.precedence.specs.Loops.{Checkable, StampsBelow, StampedTo};
 ghost use Rattle.precedence.specs.Call.{LatePut, check_in_numbers, LateTables, ListsRows, Orders, FoundRows};
 
-use front::Opened;
+use firing::tables::RecordTables;
 use model::{Counts, Ordered, Refusal, Verdict};
 
 // The answer in numbers: the number of the refusal, 0 for rows; its place; how many rows are listed.
@@ -27,146 +27,137 @@ pub struct Late {
     pub rows: usize,
 }
 
-// The sorts of a row: the def or fun of its name comes late, or there is neither; and of a name that has no row.
-const LATE: usize = 1;
+impl From<Ordered> for Late {
+    ghost from_gives = { λ o r. r ≡ check_in_numbers o };
 
-const NEITHER: usize = 2;
-
-const NO_ROW: usize = 0;
-
-// The sort of a name that is free in the body of a def: late where its def or fun stands on the same or a later line, neither
-// where it has none; no row where it stands before.
-fn sort_at(names: &[u32], recs: &[u32], i: usize, n: usize) -> usize
-    requires { Readable names.now recs.now n × (i < most_records) }
-    ensures { result ≡ sort_at names.now recs.now i n }
-{
-    let taken = words::at(names, records::TAKEN + n);
-    if taken == 0 {
-        return NEITHER;
+    #[tactic(auto, unfolding(crate::specs::Call::check_in_numbers))]
+    fn from(o: Ordered) -> Late {
+        Late {
+            refusal: front::verdict_number(o.verdict),
+            place: o.place,
+            rows: o.rows,
+        }
     }
-    if words::at(recs, records::KIND + (taken - 1)) == records::ASSUME {
-        return NEITHER;
-    }
-    let line = words::at(recs, records::LINE + i);
-    if words::at(recs, records::LINE + (taken - 1)) < line {
-        return NO_ROW;
-    }
-    LATE
 }
 
-// The same of any name: no row too where it is not free in the body, and so has not the stamp of the def.
-fn late_at(names: &[u32], recs: &[u32], refs: &[u32], i: usize, n: usize) -> usize
-    requires { Readable names.now recs.now n × (i < most_records) × (working_words ≤ length refs.now) }
-    ensures { result ≡ late_at names.now recs.now (has_stamp refs.now i) i n }
+// Why a name of a def's body is listed: its def or fun stands on the def's line or a later one, or it has neither.
+#[derive(Clone, Copy)]
+enum Sort {
+    Late = 1,
+    Neither = 2,
+}
+
+impl Sort {
+    // The third number of its rows.
+    #[tactic(auto, unfolding(crate::specs::Sorts::sort_number))]
+    fn number(self) -> u32
+        ensures { result ≡ sort_number self }
+    {
+        self as u32
+    }
+}
+
+// The sort of a name that is free in the body of a def; none where its def or fun stands before.
+fn sort_at(tables: &RecordTables, i: usize, n: usize) -> Option<Sort>
+    requires { Readable tables.now.names.now tables.now.recs.now n × (i < most_records) }
+    ensures { result ≡ sort_at tables.now.names.now tables.now.recs.now i n }
+{
+    let taken = words::at(tables.names, records::TAKEN + n);
+    if taken == 0 {
+        return Some(Sort::Neither);
+    }
+    if words::at(tables.recs, records::KIND + (taken - 1)) == records::ASSUME {
+        return Some(Sort::Neither);
+    }
+    let line = words::at(tables.recs, records::LINE + i);
+    if words::at(tables.recs, records::LINE + (taken - 1)) < line {
+        return None;
+    }
+    Some(Sort::Late)
+}
+
+// The same of any name: none too where it is not free in the body, and so has not the stamp of the def.
+fn late_at(tables: &RecordTables, refs: &[u32], i: usize, n: usize) -> Option<Sort>
+    requires { Readable tables.now.names.now tables.now.recs.now n × (i < most_records) × (working_words ≤ length refs.now) }
+    ensures { result ≡ late_at tables.now.names.now tables.now.recs.now (has_stamp refs.now i) i n }
 {
     if words::at(refs, n) != i + 1 {
-        return NO_ROW;
+        return None;
     }
-    sort_at(names, recs, i, n)
+    sort_at(tables, i, n)
 }
 
 // Puts the rows of a def, the names of whose body have its stamp, behind the first m rows, by name in byte order; how many
 // there are then.
-fn put_body(
-    names: &[u32],
-    recs: &[u32],
-    refs: &[u32],
-    run: &mut [u32],
-    named: usize,
-    i: usize,
-    m: usize,
-) -> usize
-    requires { Index names.now named × (working_words ≤ length recs.now) × (working_words ≤ length refs.now)
-        × (working_words ≤ length run.old) × (i < most_records)
-        × (m + length (body_rows names.now recs.now (has_stamp refs.now i) named i) ≤ most_uses) }
-    ensures { RowsBehind run.old m (body_rows names.now recs.now
-        (has_stamp refs.now i) named i) run.new result }
+fn put_body(tables: &RecordTables, refs: &[u32], run: &mut [u32], i: usize, m: usize) -> usize
+    requires { Index tables.now.names.now tables.now.k.names × (working_words ≤ length tables.now.recs.now)
+        × (working_words ≤ length refs.now) × (working_words ≤ length run.old) × (i < most_records)
+        × (m + length (body_rows tables.now.names.now tables.now.recs.now (has_stamp refs.now i) tables.now.k.names i) ≤ most_uses) }
+    ensures { RowsBehind run.old m (body_rows tables.now.names.now tables.now.recs.now
+        (has_stamp refs.now i) tables.now.k.names i) run.new result }
 {
-    let line = recs[records::LINE + i];
+    let line = tables.recs[records::LINE + i];
     let mut to = m;
-    let mut r = 0;
-    while r < named {
-        let n = words::at(names, names::INDEX + r);
-        let s = late_at(names, recs, refs, i, n);
-        r += 1;
-        if s == NO_ROW {
+    for r in 0..tables.k.names {
+        let n = words::at(tables.names, names::INDEX + r);
+        let Some(sort) = late_at(tables, refs, i, n) else {
             continue;
-        }
-        rows::put_row(run, to, line, n as u32, s as u32);
+        };
+        rows::put_row(run, to, line, n as u32, sort.number());
         to += 1;
     }
     to
 }
 
 // Gives the names that are free in the body of a def its stamp: the number of its record and one.
-fn stamp_body(recs: &[u32], lists: &[u32], refs: &mut [u32], k: Counts, i: usize)
-    requires { Records recs.now lists.now k.names k.records k.entries k.uses × (k.names ≤ most_names)
-        × (working_words ≤ length refs.old) × (i < k.records) }
+fn stamp_body(tables: &RecordTables, refs: &mut [u32], i: usize)
+    requires { Records tables.now.recs.now tables.now.lists.now tables.now.k.names tables.now.k.records tables.now.k.entries
+        tables.now.k.uses × (tables.now.k.names ≤ most_names) × (working_words ≤ length refs.old) × (i < tables.now.k.records) }
     ensures { refs.new ≡ stamps (i + 1) refs.old
-        (uses_at recs.now lists.now i) }
+        (uses_at tables.now.recs.now tables.now.lists.now i) }
 {
-    let a = words::at(recs, records::USES_START + i);
-    let e = words::at(recs, records::USES_END + i);
+    let a = words::at(tables.recs, records::USES_START + i);
+    let e = words::at(tables.recs, records::USES_END + i);
     let stamp = (i + 1) as u32;
-    let mut j = a;
-    while j < e {
-        let n = words::at(lists, j);
-        refs[n] = stamp;
-        j += 1;
+    for j in a..e {
+        refs[words::at(tables.lists, j)] = stamp;
     }
 }
 
 // Puts the rows of a record, which has some if it is a def, behind the first m rows; how many there are then.
-fn put_def(
-    names: &[u32],
-    recs: &[u32],
-    lists: &[u32],
-    refs: &mut [u32],
-    run: &mut [u32],
-    k: Counts,
-    i: usize,
-    m: usize,
-) -> usize
-    requires { Checkable names.now recs.now lists.now k × (working_words ≤ length refs.old)
-        × (working_words ≤ length run.old) × (i < k.records) × StampsBelow refs.old i
-        × (m + length (def_rows names.now recs.now lists.now k.names i) ≤ most_uses) }
-    ensures listed { RowsBehind run.old m (def_rows names.now recs.now
-        lists.now k.names i) run.new result }
+fn put_def(tables: &RecordTables, refs: &mut [u32], run: &mut [u32], i: usize, m: usize) -> usize
+    requires { Checkable tables.now.names.now tables.now.recs.now tables.now.lists.now tables.now.k
+        × (working_words ≤ length refs.old) × (working_words ≤ length run.old) × (i < tables.now.k.records) × StampsBelow refs.old i
+        × (m + length (def_rows tables.now.names.now tables.now.recs.now tables.now.lists.now tables.now.k.names i) ≤ most_uses) }
+    ensures listed { RowsBehind run.old m (def_rows tables.now.names.now tables.now.recs.now
+        tables.now.lists.now tables.now.k.names i) run.new result }
     ensures stamped { StampedTo refs.old refs.new (i + 1) }
 {
-    if words::at(recs, records::KIND + i) != records::DEF {
+    if words::at(tables.recs, records::KIND + i) != records::DEF {
         return m;
     }
-    stamp_body(recs, lists, refs, k, i);
-    put_body(names, recs, refs, run, k.names, i, m)
+    stamp_body(tables, refs, i);
+    put_body(tables, refs, run, i, m)
 }
 
 // Puts the rows of all defs into words, by line and then by name in byte order; how many there are.
-pub fn put_rows(
-    names: &[u32],
-    recs: &[u32],
-    lists: &[u32],
-    refs: &mut [u32],
-    run: &mut [u32],
-    k: Counts,
-) -> usize
-    requires { Checkable names.now recs.now lists.now k × (working_words ≤ length refs.old)
-        × (working_words ≤ length run.old) × (length (all_late names.now recs.now lists.now k) ≤ most_uses) }
-    ensures { LatePut (all_late names.now recs.now lists.now k)
+pub fn put_rows(tables: &RecordTables, refs: &mut [u32], run: &mut [u32]) -> usize
+    requires { Checkable tables.now.names.now tables.now.recs.now tables.now.lists.now tables.now.k
+        × (working_words ≤ length refs.old) × (working_words ≤ length run.old)
+        × (length (all_late tables.now.names.now tables.now.recs.now tables.now.lists.now tables.now.k) ≤ most_uses) }
+    ensures { LatePut (all_late tables.now.names.now tables.now.recs.now tables.now.lists.now tables.now.k)
         refs.old refs.new run.old run.new result }
 {
     words::clear(refs, 0, model::MOST_NAMES);
-    let records = k.records;
     let mut to = 0;
-    let mut i = 0;
-    while i < records {
-        to = put_def(names, recs, lists, refs, run, k, i, to);
-        i += 1;
+    for i in 0..tables.k.records {
+        to = put_def(tables, refs, run, i, to);
     }
     to
 }
 
-// A refused answer: its place, and no rows.
+// A refused answer: its place, and no rows. A function in each call, since the answers differ in their counts.
+#[tactic(auto, unfolding(model::specs::Checking::ordered))]
 fn refused(r: Refusal, place: u32) -> Ordered
     ensures { result ≡ ordered (refusal_at r place) }
 {
@@ -194,7 +185,13 @@ fn list_rows(
         (six w0.old w1.old w2.old w3.old w4.old w5.old)
         (six w0.new w1.new w2.new w3.new w4.new w5.new) result }
 {
-    let count = put_rows(w0, w3, w4, w1, w5, k);
+    let tables = RecordTables {
+        names: &*w0,
+        recs: &*w3,
+        lists: &*w4,
+        k,
+    };
+    let count = put_rows(&tables, w1, w5);
     let is_short = room < count;
     if is_short {
         front::close_file(w0, w1, w2, w3, w4, w5);
@@ -225,20 +222,8 @@ pub fn check_order(
         (six w0.new w1.new w2.new w3.new w4.new w5.new) }
 {
     match front::open_file(file, w0, w1, w2, w3, w4, w5) {
-        Opened::Read(k) => list_rows(w0, w1, w2, w3, w4, w5, k, room),
-        Opened::Refused(r, place) => refused(r, place),
-    }
-}
-
-// The answer in numbers.
-fn in_numbers(o: Ordered) -> Late
-    ensures { result ≡ check_in_numbers o }
-{
-    let verdict = o.verdict;
-    Late {
-        refusal: front::verdict_number(verdict),
-        place: o.place,
-        rows: o.rows,
+        Ok(k) => list_rows(w0, w1, w2, w3, w4, w5, k, room),
+        Err(r) => refused(r.refusal, r.place),
     }
 }
 
@@ -257,6 +242,5 @@ pub fn find_rows(
         (six w0.old w1.old w2.old w3.old w4.old w5.old) room result
         (six w0.new w1.new w2.new w3.new w4.new w5.new) }
 {
-    let answer = check_order(file, w0, w1, w2, w3, w4, w5, room);
-    in_numbers(answer)
+    Late::from(check_order(file, w0, w1, w2, w3, w4, w5, room))
 }

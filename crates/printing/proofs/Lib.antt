@@ -1,5 +1,6 @@
 pub mod Texts
-pub mod Lines
+pub mod Parts
 pub mod Sums
 pub mod Lists
 pub mod Answers
+pub mod Written

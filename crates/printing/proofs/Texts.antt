@@ -1,16 +1,14 @@
 -- Laws of texts: bytes put one after the other, and numbers in decimal.
-use Prim.Native.Nat.{ℕ, zero, suc, ◌+◌, ◌-◌, ◌/◌, ◌%◌, ◌^◌, ◌≤◌, ◌<◌}
-use native.Mathlib.Numerals.{add-one}
-use native.Mathlib.Nat.{add-zero, mod-lt, mod-eq_of_lt, div-lt_iff_lt-mul, le-div_iff_mul-le, pow-suc, pow-le-pow_right}
+use Prim.Native.Nat.{ℕ, ◌+◌, ◌%◌, ◌≤◌, ◌<◌}
+use native.Mathlib.Nat.{add_comm}
 use native.Mathlib.Omega.{arith}
 use mathlib.Core.Path.{◌≡◌, refl, sym, ap, ◌∙◌}
 use mathlib.Core.Bool.{Bool, true, false}
-use mathlib.Core.List.{List, [], ◌∷◌, ◌++◌, append_assoc, append-nil}
-use lib.Dec.{leb}
-use lib.ListN.{length, take, get_or, set, length-append, length-set, length-take}
-use lib.Seq.{take-suc, take-suc-set, take_all}
-use borrow.Author.Tests.{lt-ltb, le-ltb, leb-true, leb-false}
-use Rattle.io.specs.Digits as io
+use mathlib.Core.List.{List, [], ◌∷◌, ◌++◌, append_assoc}
+use lib.ListN.{length, take, length-append, length-take}
+use borrow.Author.Tests.{lt-ltb, le-ltb}
+use Rattle.std.specs.Fmt.{decimal}
+use Rattle.std.proofs.lemmas.Fmt.{AppendsLastDigit, decimal_from_appends, length-decimal-le}
 use Rattle.model.specs.Names.{bytes}
 use Rattle.model.specs.Outcome.{refusal_number}
 use Rattle.model.specs.Text.{digits, show, comma, name_on, line, kept_line, sum_line, refused_line}
@@ -20,41 +18,6 @@ use Rattle.model.specs.declared.Row.{Row}
 use Rattle.printing.specs.Printed.{BytesPut, TextBegins, reason, has_line, reason_line}
 
 -- ---- bytes
-
--- the first i bytes are put
-pub record Putting (at : ℕ) (new before text : List ℕ) (i : ℕ) : Type 0 where
-  pub few : i ≤ length new
-  pub same_length : length text ≡ length before
-  pub written : take (at + i) text ≡ take at before ++ take i new
-
--- none is put
-pub putting_start : (at : ℕ) (new before : List ℕ) → Putting at new before before 0
-putting_start at new before =
-    record {
-      few = omega arith;
-      same_length = refl;
-      written = rw (add-zero at, append-nil (take at before));
-    }
-
--- one more is put
-pub putting_next : (at : ℕ) (new before text : List ℕ) (i : ℕ) → Putting at new before text i
-    → i < length new → at + length new ≤ length before → Putting at new before (set text (at + i) (get_or new i 0)) (i + 1)
-putting_next at new before text i p h room =
-    let n : at + (i + 1) ≡ suc (at + i) = omega arith in
-    let k : at + i < length text = omega (arith, p.same_length) in
-    record {
-      few = omega arith;
-      same_length = length-set text (at + i) (get_or new i 0) ∙ p.same_length;
-      written =
-          rw (n, take-suc-set text (at + i) (get_or new i 0) k, p.written, add-one i, take-suc new i 0 h, append_assoc);
-    }
-
--- all are put
-pub putting_end : (at : ℕ) (new before text : List ℕ) (i : ℕ) → Putting at new before text i
-    → length new ≤ i → at + length new ≤ length before → BytesPut at new before text (at + length new)
-putting_end at new before text i p h room =
-    let e : i ≡ length new = omega (arith, p.few) in
-    record { ends = refl; written = rw (← e, p.written, take_all i new h); inside = omega (arith, p.same_length) }
 
 -- one text after another
 pub puts_then : {at : ℕ} {a b t0 t1 t2 : List ℕ} {d e : ℕ}
@@ -87,44 +50,19 @@ counted n text h = rw (length-take n text) (omega arith)
 
 -- ---- numbers
 
--- a digit as `io` has it
-glyph_digit : (d : ℕ) → d < 10 → io.hex_digit_ascii d ≡ d + 0x30
-glyph_digit d h = rw (lt-ltb d 10 h) (omega arith)
-
--- the fewest digits that hold a number are its decimal digits
-digits_shown : (fuel k n : ℕ) → k ≤ fuel → io.IsDigitCount 10 1 n k → io.last_digits 10 k n ≡ digits fuel n
+-- the digits of a number end with its last one
+digits_append : AppendsLastDigit digits
 unfolding digits
-digits_shown fuel zero n h (some, below, above) = absurd (omega arith)
-digits_shown zero (suc k) n h (some, below, above) = absurd (omega arith)
-digits_shown (suc fuel) (suc zero) n h (some, below, above) = rw (lt-ltb n 10 below, mod-eq_of_lt below, glyph_digit n below)
-digits_shown (suc fuel) (suc (suc j)) n h (some, below, above) =
-    let p : suc (suc j) - 1 ≡ suc j = omega arith in
-    let q : suc j - 1 ≡ j = omega arith in
-    let least : 10 ^ suc j ≤ n = rw p at (above (omega arith)) in
-    let ten : 10 ≤ n = omega (arith, least, pow-le-pow_right {n = 10} (omega arith) {i = 1} {j = suc j} (omega arith)) in
-    let less : n / 10 < 10 ^ suc j =
-    (div-lt_iff_lt-mul {k = 10} {x = n} {y = 10 ^ suc j} (omega arith)).1 (rw (pow-suc 10 (suc j)) at below) in
-    let more : 10 ^ j ≤ n / 10 =
-    (le-div_iff_mul-le {k = 10} {x = 10 ^ j} {y = n} (omega arith)).1 (rw (pow-suc 10 j) at least) in
-    let front = digits_shown fuel (suc j) (n / 10) (omega arith) (omega arith, less, λ _. rw q more) in
-    rw (le-ltb n 10 ten, glyph_digit (n % 10) (mod-lt n (omega arith)), front)
+digits_append =
+    record {
+      one = λ k n h. rw (lt-ltb n 10 h, add_comm n 0x30);
+      more = λ k n h. rw (le-ltb n 10 h, add_comm (n % 10) 0x30);
+    }
 
--- what `io::decimal` gives is the number in decimal
-pub shown : (k n : ℕ) → k ≤ 20 → io.IsDigitCount 10 1 n k → io.last_digits 10 k n ≡ show n
+-- what is written of a number is the number in decimal
+pub shown : (n : ℕ) → n < 18446744073709551616 → decimal n ≡ show n
 unfolding show
-shown k n h f = digits_shown 20 k n h f
-
--- a count has at most twenty digits
-pub few_digits : (k n : ℕ) → io.IsDigitCount 10 1 n k → n < 18446744073709551616 → k ≤ 20
-few_digits k n (some, below, above) h = go (leb k 20) refl
-  where
-    go : (t : Bool) → leb k 20 ≡ t → k ≤ 20
-    go true t = leb-true k 20 t
-    go false t =
-        let large : 10 ^ 20 ≤ 10 ^ (k - 1) =
-        pow-le-pow_right {n = 10} (omega arith) {i = 20} {j = k - 1} (omega (arith, leb-false k 20 t)) in
-        let most : 10 ^ (k - 1) ≤ n = above (omega (arith, leb-false k 20 t)) in
-        absurd (omega arith)
+shown n h = sym (decimal_from_appends digits digits_append 20 n h (length-decimal-le 20 n (omega arith) (omega arith) h))
 
 -- ---- lines
 
@@ -207,10 +145,6 @@ pub refused_parts : (r : Refusal) (place number : ℕ) → number ≡ refusal_nu
 unfolding refused_line line comma bytes
 refused_parts r place number q =
     ap (λ n. (((bytes "refused," ++ show n) ++ bytes ",") ++ show place) ++ bytes "\n") q ∙ simp append_assoc
-
--- whether a refusal that is known has a line
-pub line_is : {r x : Refusal} {b : Bool} → r ≡ x → b ≡ has_line x → b ≡ has_line r
-line_is e p = p ∙ ap has_line (sym e)
 
 -- the parts of a refusal in words that has a line
 pub reason_parts : (r : Refusal) (place : ℕ) {lined : Bool} → lined ≡ has_line r → lined ≡ true

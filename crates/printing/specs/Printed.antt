@@ -1,6 +1,7 @@
 -- Lines of text in a lent slice, where the lines of a file start, and a refusal in words.
 use Rattle.std.specs.Prelude.{ℕ, ◌+◌, ◌≤◌, ◌<◌, ◌≡◌, Bool, true, false, cond, List, [], ◌∷◌, ◌++◌, length, take, drop, get_or}
 use Rattle.std.specs.Borrow.{Bor}
+use denote.Struct.Props as logic
 use Rattle.model.specs.Names.{Name, bytes}
 use Rattle.model.specs.Lists.{part}
 use Rattle.model.specs.Lines.{lines}
@@ -30,6 +31,10 @@ pub record Starts (file starts : List ℕ) (many : ℕ) : Type 0 where
   pub inside : (k : ℕ) → k < many → get_or starts k 0 < length file
   pub each : (k : ℕ) → k < many → drop k (lines file) ≡ lines (drop (get_or starts k 0) file)
   pub all : length (lines file) ≤ many
+
+-- they do so in one way at most, so that a struct may hold the fact
+pub Starts-prop : (file starts : List ℕ) (many : ℕ) → IsProp (Starts file starts many)
+Starts-prop file starts many = Prim.hlevel logic.props
 
 -- the words from a place on are as they were
 abbrev pub SameFrom : ℕ → List ℕ → List ℕ → Type 0

@@ -12,6 +12,7 @@ use Rattle.records.specs.Columns.{taken_at, ask_room}
 use Rattle.records.specs.States.{uses_at}
 use Rattle.records.specs.Filing.{Records, newest}
 use Rattle.macros.specs.Macros.{is_def}
+use Rattle.firing.specs.declared.tables.RecordTables.{RecordTables}
 use Rattle.firing.specs.Held.{upto}
 use Rattle.firing.specs.Met.{marks}
 use Rattle.prune.specs.Listing.{most_stamps, fact_records, followed_stamp, kept_records}
@@ -56,6 +57,10 @@ pub record Index (names : List ℕ) (named : ℕ) : Type 0 where
   pub few : named ≤ most_names
   pub numbers : (r : ℕ) → r < named → ranked names r < named
   pub takers : (n : ℕ) → n < named → taken_at names n ≤ most_records
+
+-- those of the tables that are lent
+abbrev pub IsIndexed : RecordTables → Type 0
+IsIndexed t = Index t.names.now t.k.names
 
 -- records written behind the first m of a column
 pub record Behind (column : ℕ) (w : List ℕ) (m : ℕ) (l : List ℕ) (v : List ℕ) (to : ℕ) : Type 0 where

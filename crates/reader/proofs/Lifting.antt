@@ -15,7 +15,7 @@ use Rattle.model.specs.Outcome.{working_words}
 use Rattle.model.specs.declared.Counts.{Counts}
 use Rattle.model.specs.declared.LineKind.{LineKind}
 use Rattle.model.specs.declared.Refusal.{Refusal}
-use Rattle.model.specs.declared.Step.{Step}
+use Rattle.model.specs.Steps.{Step}
 use Rattle.laws.proofs.ReadingLaws.{Lowest, past_names as many_names, past_terms}
 use Rattle.text.specs.declared.Cursor.{Cursor}
 use Rattle.text.specs.Parts.{fields_left}

@@ -2,30 +2,31 @@
 use Prim.Native.Nat.{ℕ, suc, ◌+◌, ◌≤◌, ◌<◌}
 use native.Mathlib.Omega.{arith}
 use mathlib.Core.Path.{◌≡◌, refl, sym, ap, ap₂, ◌∙◌}
-use mathlib.Core.Bool.{Bool, true, false, cond, not, ◌&&◌, true≢false}
+use mathlib.Core.Bool.{Bool, true, false, cond, not, ◌&&◌}
 use mathlib.Core.Logic.{⊎_elim}
+use Rattle.std.specs.Prelude.{Ok, Err}
 use mathlib.Core.List.{List, [], ◌∷◌}
 use lib.Dec.{T_not, eqb, nleb→lt}
 use lib.ListN.{length, drop, length-map}
 use borrow.Author.Tests.{eq-eqb, ne_eqb}
 use Rattle.model.specs.Summaries.{exclude_names}
-use Rattle.model.specs.Lists.{fold_left, holds, is_nil, part}
+use Rattle.model.specs.Lists.{fold_left, is_nil, part}
 use Rattle.model.specs.Lines.{lines, Field, fields}
-use Rattle.model.specs.Reading.{Result, ok, refused, ◌>>=◌, next, place, in_asks, may_stand, is_position, most_asks, kind_field, content, parse, State, start, read, refused_at, go_on, read_line, read_lines, read_file, Content}
+use Rattle.model.specs.Reading.{Result, ok, refused, next, place, in_asks, may_stand, is_position, most_asks, kind_field, content, parse, State, start, read, refused_at, go_on, read_line, read_lines, read_file}
 use Rattle.model.specs.Outcome.{most_bytes, working_words}
 use Rattle.model.specs.declared.Counts.{Counts}
 use Rattle.model.specs.declared.LineKind.{LineKind}
 use Rattle.model.specs.declared.LineKind.TheVariants as kind
 use Rattle.model.specs.declared.Refusal.{Refusal}
+use Rattle.model.specs.declared.Refused.{Refused}
 use Rattle.model.specs.declared.Refusal.TheVariants as refusal
-use Rattle.model.specs.declared.Step.{Step}
-use Rattle.model.specs.declared.Step.TheVariants as step
+use Rattle.model.specs.Steps.{Step}
+use Rattle.model.specs.Steps as step
 use Rattle.model.proofs.ResultLaws.{ok_eq, not_ok}
 use Rattle.model.proofs.ListLaws.{T_and, true_T}
 use Rattle.laws.proofs.ReadingLaws.{kind_ok}
 use Rattle.text.specs.declared.Cursor.{Cursor}
-use Rattle.text.specs.declared.FieldStep.{FieldStep}
-use Rattle.text.specs.declared.FieldStep.TheVariants as field
+use Rattle.text.specs.declared.Part.{Part}
 use Rattle.text.specs.Parts.{mark_at, Placed, fields_left, field_at, field_result}
 use Rattle.text.proofs.Laws.{field_law, field_some, left_some, field_next, line_ended, line_last, line_none, mark_from}
 use Rattle.names.specs.Table.{name_of, table_names}
@@ -35,8 +36,8 @@ use Rattle.fields.specs.declared.Kind.{Kind}
 use Rattle.fields.specs.declared.Kind.TheVariants as kinded
 use Rattle.fields.specs.declared.TermKind.{TermKind}
 use Rattle.fields.specs.declared.RecordKind.{RecordKind}
-use Rattle.fields.specs.Wording.{ask_line_kind, kind_result, term_kind, record_line_kind, Placing, fixed_of, well_counted}
-use Rattle.fields.proofs.Words.{parse_law}
+use Rattle.fields.specs.Wording.{ask_line_kind, known_kind, kind_result, term_kind, record_line_kind, Placing, well_counted}
+use Rattle.fields.proofs.Words.{parse_law, parse_refused}
 use Rattle.words.proofs.Slices.{same_then, same_wider}
 use Rattle.records.specs.States.{asks_of, decls_of, roots_of, hides_of, hidden_of, state_of}
 use Rattle.records.specs.Columns.{taken_column, first_column, ask_room}
@@ -53,8 +54,7 @@ use Rattle.records.proofs.Appending.{terms_length}
 use Rattle.records.proofs.Asking.{asks_length, asks_none}
 use Rattle.records.specs.Writing.{no_counts}
 use Rattle.filing.specs.Lines.{judged, Reads, goes_on, stops, Past}
-use Rattle.reader.specs.declared.Reading.TheVariants as answer
-use Rattle.reader.specs.Lines.{kind_content, TablesCleared, ReadsFile, all_read, read_stops, TermsStand, FileRead}
+use Rattle.reader.specs.Lines.{kind_content, at_line, FileOutcome, TablesCleared, ReadsFile, all_read, read_stops, TermsStand, FileRead}
 
 -- ---- the form of a line
 
@@ -70,93 +70,74 @@ module _ (file : List ℕ) (a e : ℕ) (h : a ≤ e) (l : e ≤ length file) (sh
   at_start = record { at = a; end = e }
 
   -- the fields of a line: the first, and those after it
-  pub fields_first : {s t : ℕ} {n : Cursor} {r : FieldStep} → r ≡ field_at file at_start → r ≡ field.Part s t n
-      → fields (part file a e) ≡ part file s t ∷ fields_left file n
+  pub fields_first : {p : Part} {r : Result Part} → r ≡ field_at file at_start → r ≡ ok p
+      → fields (part file a e) ≡ part file p.start p.end ∷ fields_left file p.next
   unfolding field_result
-  fields_first p q = sym (left_some file at_start h)
+  fields_first a b = sym (left_some file at_start h)
       ∙ next_first (fields_left file at_start)
-      (sym (field_law file at_start (record { inside = l; short = short })) ∙ ap (field_result file) (sym p ∙ q))
+      (sym (field_law file at_start (record { inside = l; short = short })) ∙ ap (field_result file) (sym a ∙ b))
 
   -- there is one
-  pub field_there : {x : Refusal} {r : FieldStep} → r ≡ field_at file at_start → r ≡ field.Refused x → ⊥
+  pub field_there : {x : Refusal} {r : Result Part} → r ≡ field_at file at_start → r ≡ refused x → ⊥
   field_there p q =
       let w = field_some file at_start (mark_at 0x2c file a e) h refl in
       let z : ◌≡◌ {A = ℕ} 0 1 = cc in omega arith
 
 -- the first field lies in the line, and the next cursor past it
-pub field_placed : {file : List ℕ} {a e s t : ℕ} {n : Cursor} {r : FieldStep} → a ≤ e → e ≤ length file → length file ≤ most_bytes
-    → r ≡ field_at file (record { at = a; end = e }) → r ≡ field.Part s t n → Placed file n × (s ≤ t) × (t ≤ length file)
-field_placed {file} {a} {e} {s} {t} {n} h l short p q =
-    let x = field_next file (record { at = a; end = e }) (record { inside = l; short = short }) s t n (sym p ∙ q) in
+pub field_placed : {file : List ℕ} {a e : ℕ} {p : Part} {r : Result Part} → a ≤ e → e ≤ length file → length file ≤ most_bytes
+    → r ≡ field_at file (record { at = a; end = e }) → r ≡ ok p → Placed file p.next × (p.start ≤ p.end) × (p.end ≤ length file)
+field_placed {file} {a} {e} {p} h l short d q =
+    let x = field_next file (record { at = a; end = e }) (record { inside = l; short = short }) p (sym d ∙ q) in
     (x.onward.placed, x.ordered, x.inside)
 
--- a test whose opposite holds fails
-pub not_true : {x b : Bool} → x ≡ b → not x ≡ true → false ≡ b
-not_true {x} {b} e h = go x e h
-  where
-    go : (x : Bool) → x ≡ b → not x ≡ true → false ≡ b
-    go true q z = let w : ◌≡◌ {A = ℕ} 0 1 = cc in absurd (omega arith)
-    go false q z = q
+-- a kind that is known
+pub kind_known : {r : Result Kind} {k : Kind} {v : Result LineKind} → kind_result r ≡ v → r ≡ ok k → ok (known_kind k) ≡ v
+unfolding kind_result
+kind_known a b = rw b at a
 
--- and one whose opposite fails holds
-pub not_false : {x b : Bool} → x ≡ b → not x ≡ false → true ≡ b
-not_false {x} {b} e h = go x e h
-  where
-    go : (x : Bool) → x ≡ b → not x ≡ false → true ≡ b
-    go true q z = q
-    go false q z = let w : ◌≡◌ {A = ℕ} 0 1 = cc in absurd (omega arith)
+-- and one that is not
+pub kind_unknown : {r : Result Kind} {x : Refusal} {v : Result LineKind} → kind_result r ≡ v → r ≡ refused x → refused x ≡ v
+unfolding kind_result
+kind_unknown a b = rw b at a
 
 -- what a line of a kind says
 module _ (grouped : Bool) (count : ℕ) (fs : List Field) {k : Kind} where
   pub kind_ask : {b : Bool} → k ≡ kinded.Ask b → kind_content k grouped count fs ≡ content (ask_line_kind b) grouped count fs
-  unfolding kind_content kind_result
+  unfolding kind_content known_kind
   kind_ask e = rw e
 
   pub kind_also : k ≡ kinded.Also → kind_content k grouped count fs ≡ content kind.Also grouped count fs
-  unfolding kind_content kind_result
+  unfolding kind_content known_kind
   kind_also e = rw e
 
   pub kind_hide : k ≡ kinded.Hide → kind_content k grouped count fs ≡ content kind.Hide grouped count fs
-  unfolding kind_content kind_result
+  unfolding kind_content known_kind
   kind_hide e = rw e
 
   pub kind_term : {t : TermKind} → k ≡ kinded.Term t → kind_content k grouped count fs ≡ content (term_kind t) grouped count fs
-  unfolding kind_content kind_result
+  unfolding kind_content known_kind
   kind_term e = rw e
 
   pub kind_record : {r : RecordKind} → k ≡ kinded.Record r → kind_content k grouped count fs ≡ content (record_line_kind r) grouped count fs
-  unfolding kind_content kind_result
+  unfolding kind_content known_kind
   kind_record e = rw e
 
-  pub kind_none : {x : Refusal} → k ≡ kinded.No x → kind_content k grouped count fs ≡ refused x
-  unfolding kind_content kind_result
-  kind_none e = rw e
+module _ (s : State) {all : List Field} {f : Field} {fs : List Field} (d : all ≡ f ∷ fs) where
+  module _ {grouped : Bool} {count : ℕ} (form : s.grouped ≡ grouped) (terms : length s.terms ≡ count) (k : Kind) (q : ok (known_kind k) ≡ kind_field s f) where
+    -- the number of fields is right
+    pub parse_on : true ≡ well_counted s k all → parse s all ≡ kind_content k grouped count fs
+    unfolding kind_content
+    parse_on c = ap (parse s) d ∙ parse_law s f fs k form terms q
+        ∙ ap (λ b. cond b (content (known_kind k) grouped count fs) (refused refusal.Form)) (sym (c ∙ ap (well_counted s k) d))
 
--- a line without a kind is not counted
-miscounted : (s : State) (k : Kind) (all : List Field) → false ≡ well_counted s k all
-    → ◌≡◌ {A = Result Content} (kind_result k >>= λ l. refused refusal.Form) (refused refusal.Form)
-unfolding kind_result well_counted fixed_of holds
-miscounted s (kinded.Ask grouped) all c = refl
-miscounted s kinded.Also all c = refl
-miscounted s kinded.Hide all c = refl
-miscounted s (kinded.Term t) all c = refl
-miscounted s (kinded.Record r) all c = refl
-miscounted s (kinded.No x) all c = absurd (true≢false (sym c))
+    -- it is not
+    pub parse_count : false ≡ well_counted s k all → parse s all ≡ refused refusal.Form
+    parse_count c = ap (parse s) d ∙ parse_law s f fs k form terms q
+        ∙ ap (λ b. cond b (content (known_kind k) grouped count fs) (refused refusal.Form)) (sym (c ∙ ap (well_counted s k) d))
 
-module _ (s : State) {grouped : Bool} {count : ℕ} (form : s.grouped ≡ grouped) (terms : length s.terms ≡ count) {all : List Field} {f : Field}
-    {fs : List Field} (d : all ≡ f ∷ fs) (k : Kind) (q : kind_result k ≡ kind_field s f) where
-  -- the number of fields is right
-  pub parse_on : true ≡ well_counted s k all → parse s all ≡ kind_content k grouped count fs
-  unfolding kind_content
-  parse_on c = ap (parse s) d ∙ parse_law s f fs k form terms q
-      ∙ ap (λ b. kind_result k >>= λ l. cond b (content l grouped count fs) (refused refusal.Form)) (sym (c ∙ ap (well_counted s k) d))
-
-  -- it is not
-  pub parse_count : false ≡ well_counted s k all → parse s all ≡ refused refusal.Form
-  unfolding kind_result
-  parse_count c = ap (parse s) d ∙ parse_law s f fs k form terms q
-      ∙ ap (λ b. kind_result k >>= λ l. cond b (content l grouped count fs) (refused refusal.Form)) (sym (c ∙ ap (well_counted s k) d))
-      ∙ miscounted s k all c
+  -- the line has no kind
+  pub parse_not : {x : Refusal} → refused x ≡ kind_field s f → parse s all ≡ refused x
+  parse_not e = ap (parse s) d ∙ parse_refused s f fs e
 
 -- a list is empty where its length is 0
 nil_length : {A : Type 0} (l : List A) → is_nil l ≡ eqb (length l) 0
@@ -217,14 +198,14 @@ module _ (s : State) {k : Counts} (f : Field) where
       omega (arith, p.asks, nleb→lt most_asks (length s.asks) few)
 
   -- an ask line, with groups or without
-  pub ask_fits : {r : Kind} → Placing s k → kind_result r ≡ kind_field s f → (grouped : Bool) → r ≡ kinded.Ask grouped → k.asks < ask_room
-  unfolding kind_result place is_position ask_line_kind
+  pub ask_fits : {r : Kind} → Placing s k → ok (known_kind r) ≡ kind_field s f → (grouped : Bool) → r ≡ kinded.Ask grouped → k.asks < ask_room
+  unfolding known_kind place is_position ask_line_kind
   ask_fits p e true a = position_fits p (sym (rw a at e)) refl
   ask_fits p e false a = position_fits p (sym (rw a at e)) refl
 
   -- an also line, and there is a position before it
-  pub also_fits : {r : Kind} → Placing s k → kind_result r ≡ kind_field s f → r ≡ kinded.Also → (0 < k.asks) × (k.asks < ask_room)
-  unfolding kind_result place is_position may_stand
+  pub also_fits : {r : Kind} → Placing s k → ok (known_kind r) ≡ kind_field s f → r ≡ kinded.Also → (0 < k.asks) × (k.asks < ask_room)
+  unfolding known_kind place is_position may_stand
   also_fits p e a =
       let d : kind_field s f ≡ ok kind.Also = sym (rw a at e) in
       let some = ((T_and (in_asks s) (not (is_nil s.asks))).0 (kind_ok s f d).1).1 in (
@@ -295,9 +276,9 @@ module _ {file names refs rows recs lists : List ℕ} {k : Counts} {n from : ℕ
 
   -- a last line without its 0A
   pub on_open : {end : ℕ} → from < length file → end ≡ mark_at 0x0a file from (length file) → end ≡ length file
-      → ReadsFile file names refs rows recs lists (answer.Refused refusal.Form n)
+      → ReadsFile file names refs rows recs lists (Err (at_line refusal.Form n))
   unfolding read_lines read_line go_on
-  on_open {end} h e l = read_stops {x = refusal.Form} {n = n} (o.run ∙ rw (line_last file from end h e l))
+  on_open {end} h e l = read_stops {x = at_line refusal.Form n} (o.run ∙ rw (line_last file from end h e l))
 
   module _ {end : ℕ} (h : from < length file) (e : end ≡ mark_at 0x0a file from (length file)) (l : end < length file)
       {names' refs' rows' recs' lists' : List ℕ} {f : Step}
@@ -324,13 +305,13 @@ module _ {file names refs rows recs lists : List ℕ} {k : Counts} {n from : ℕ
         }
 
     -- the line is refused
-    pub on_refused : {x : Refusal} → f ≡ step.Refused x → ReadsFile file names' refs' rows' recs' lists' (answer.Refused x n)
+    pub on_refused : {x : Refusal} → f ≡ step.Refused x → ReadsFile file names' refs' rows' recs' lists' (Err (at_line x n))
     on_refused {x} q = go (rw q at r)
       where
         go : Reads file names' refs' rows' recs' lists' n (state_of file names refs rows recs lists k) (parse (state_of file names refs rows recs lists k) (fields (part file from end)))
             (step.Refused x)
-            → ReadsFile file names' refs' rows' recs' lists' (answer.Refused x n)
-        go (stops d) = read_stops {x = x} {n = n}
+            → ReadsFile file names' refs' rows' recs' lists' (Err (at_line x n))
+        go (stops d) = read_stops {x = at_line x n}
             (o.run ∙ one_refused file from end n (state_of file names refs rows recs lists k) (line_ended file from end h e l) (line_is ∙ d))
 
 -- one line after the others
@@ -375,13 +356,13 @@ opened_state {file} {names} {refs} {rows} {recs} {lists} {names'} {k} st o =
     )
 
 -- a file that is refused is not read
-pub no_terms : {refs rows recs : List ℕ} {x : Refusal} {n : ℕ} (k : Counts) → answer.Refused x n ≡ answer.Read k
+pub no_terms : {refs rows recs : List ℕ} {x : Refused} (k : Counts) → ◌≡◌ {A = FileOutcome} (Err x) (Ok k)
     → TermsStand refs rows recs k
 no_terms k e = let z : ◌≡◌ {A = ℕ} 0 1 = cc in let n : ⊥ = omega arith in absurd n
 
 -- tables that stand have their terms
 terms_there : {file names refs rows recs lists : List ℕ} {k : Counts} → Standing file names refs rows recs lists k
-    → (k' : Counts) → answer.Read k ≡ answer.Read k' → TermsStand refs rows recs k'
+    → (k' : Counts) → ◌≡◌ {A = FileOutcome} (Ok k) (Ok k') → TermsStand refs rows recs k'
 terms_there {refs = refs} {rows} {recs} {k = k} st k' e =
     let same : k ≡ k' = cc in
     let stand : TermsStand refs rows recs k = record { term_table = st.tables.term_table; termed = st.termed } in
@@ -391,7 +372,7 @@ terms_there {refs = refs} {rows} {recs} {k = k} st k' e =
 pub opened_read : {file names refs rows recs lists names₀ refs₀ rows₀ recs₀ lists₀ names' : List ℕ} {k : Counts} {n from : ℕ}
     → ReadingOn file names refs rows recs lists k n from
     → length file ≤ from → Past names₀ refs₀ rows₀ recs₀ lists₀ names refs rows recs lists → MacrosOpened names recs names' k.names k.names
-    → FileRead file names₀ refs₀ rows₀ recs₀ lists₀ names' refs rows recs lists (answer.Read k)
+    → FileRead file names₀ refs₀ rows₀ recs₀ lists₀ names' refs rows recs lists (Ok k)
 opened_read {k = k} o h p x = record {
   reads = all_read {k = k} (on_last o h ∙ ap read (opened_state o.standing x)) (standing_filled o.standing x);
   past = record {

@@ -9,11 +9,9 @@ use Rattle.model.specs.declared.LineKind.TheVariants as kind
 use Rattle.model.specs.declared.Refusal.{Refusal}
 use Rattle.model.specs.declared.Refusal.TheVariants as refusal
 use Rattle.model.specs.declared.Counts.{Counts}
-use Rattle.model.specs.declared.Step.TheVariants as step
+use Rattle.model.specs.Steps as step
 use Rattle.model.proofs.ResultLaws.{ok_eq}
 use Rattle.text.specs.declared.Cursor.{Cursor}
-use Rattle.text.specs.declared.NumberStep.{NumberStep}
-use Rattle.text.specs.declared.NumberStep.TheVariants as numbered
 use Rattle.text.specs.Parts.{Placed, fields_left, number_at, number_result}
 use Rattle.fields.specs.Wording.{number_or}
 use Rattle.fields.proofs.Pushing.{number_read, number_not}
@@ -115,37 +113,37 @@ counts_plain k z e = rw (z, e, or-false k.grouped)
 
 -- ---- the steps of the cursor
 
-module _ {file : List ℕ} {c : Cursor} (k : Counts) (p : Placed file c) {r : NumberStep} (a : r ≡ number_at 255 file c) where
+module _ {file : List ℕ} {c : Cursor} (k : Counts) (p : Placed file c) {r : Result (ℕ × Cursor)} (a : r ≡ number_at 255 file c) where
   -- the ask's query is refused
-  pub asks_not : (grouped : Bool) {recs : List ℕ} {x : Refusal} → r ≡ numbered.Refused x
+  pub asks_not : (grouped : Bool) {recs : List ℕ} {x : Refusal} → r ≡ refused x
       → Asks recs recs k (content (ask_line_kind grouped) k.grouped k.terms (fields_left file c)) (step.Refused x)
   asks_not grouped {x = x} b = not_asked {x = x} (ask_not k.grouped k.terms (fields_left file c) grouped (number_not p 255 a b)) refl
 
-  module _ (grouped : Bool) {q : ℕ} {n : Cursor} (b : r ≡ numbered.Number q n) {s : NumberStep} (d : s ≡ number_at 15 file n) where
+  module _ (grouped : Bool) {q : ℕ} {n : Cursor} (b : r ≡ ok (q, n)) {s : Result (ℕ × Cursor)} (d : s ≡ number_at 15 file n) where
     -- the cursor after the query
     after : Placed file n
     after = number_placed 255 p a b
 
     -- its options are refused
-    pub asks_options_not : {recs : List ℕ} {x : Refusal} → s ≡ numbered.Refused x
+    pub asks_options_not : {recs : List ℕ} {x : Refusal} → s ≡ refused x
         → Asks recs recs k (content (ask_line_kind grouped) k.grouped k.terms (fields_left file c)) (step.Refused x)
     asks_options_not {x = x} e = not_asked {x = x}
         (ask_options_not k.grouped k.terms (fields_left file c) grouped (number_read p 255 a b) (number_not after 15 d e)) refl
 
-    module _ {options : ℕ} {m : Cursor} (e : s ≡ numbered.Number options m) {t : NumberStep} (f : t ≡ number_or grouped most_groups most_groups file m) where
+    module _ {options : ℕ} {m : Cursor} (e : s ≡ ok (options, m)) {t : Result (ℕ × Cursor)} (f : t ≡ number_or grouped most_groups most_groups file m) where
       -- the field of its groups
       groups_are : groups_field grouped (fields_left file m) ≡ number_result file t
       groups_are = sym (number_or_field (number_placed 15 after d e) most_groups most_groups grouped) ∙ ap (number_result file) (sym f)
 
       -- its groups are refused
-      pub asks_groups_not : {recs : List ℕ} {x : Refusal} → t ≡ numbered.Refused x
+      pub asks_groups_not : {recs : List ℕ} {x : Refusal} → t ≡ refused x
           → Asks recs recs k (content (ask_line_kind grouped) k.grouped k.terms (fields_left file c)) (step.Refused x)
       unfolding number_result
       asks_groups_not {x = x} g = not_asked {x = x}
           (ask_groups_not k.grouped k.terms (fields_left file c) grouped (number_read p 255 a b) (number_read after 15 d e)
           (groups_are ∙ ap (number_result file) g)) refl
 
-      module _ {groups : ℕ} {l : Cursor} (g : t ≡ numbered.Number groups l) where
+      module _ {groups : ℕ} {l : Cursor} (g : t ≡ ok (groups, l)) where
         groups_read : groups_field grouped (fields_left file m) ≡ ok (groups, fields_left file l)
         unfolding number_result
         groups_read = groups_are ∙ ap (number_result file) g
@@ -172,11 +170,11 @@ module _ {file : List ℕ} {c : Cursor} (k : Counts) (p : Placed file c) {r : Nu
             rw z (rw (head_grouped grouped q options groups) at x)
 
   -- the also line's query is refused
-  pub also_refused : {recs : List ℕ} {x : Refusal} → r ≡ numbered.Refused x
+  pub also_refused : {recs : List ℕ} {x : Refusal} → r ≡ refused x
       → Asks recs recs k (content kind.Also k.grouped k.terms (fields_left file c)) (step.Refused x)
   also_refused {x = x} b = not_asked {x = x} (also_not k.grouped k.terms (fields_left file c) (number_not p 255 a b)) refl
 
-  module _ {q : ℕ} {l : Cursor} (b : r ≡ numbered.Number q l) where
+  module _ {q : ℕ} {l : Cursor} (b : r ≡ ok (q, l)) where
     -- a field is left over
     pub also_longer : {recs : List ℕ} → l.at ≤ l.end
         → Asks recs recs k (content kind.Also k.grouped k.terms (fields_left file c)) (step.Refused refusal.Form)

@@ -15,69 +15,54 @@ ghost use Rattle.filing.specs.Lines.{LineRead};
 ghost use Rattle.reader.specs.Lines.{kind_content, Asks, TablesCleared, FileRead};
 
 use fields::Kind;
-use model::{Counts, Refusal, Step};
-use text::{Cursor, FieldStep, NumberStep};
-
-// What reading a file comes to: the counts after the last line, or a refusal and its line.
-#[derive(Clone, Copy)]
-pub enum Reading {
-    Read(Counts),
-    Refused(Refusal, usize),
-}
+use model::{Counts, Refusal, Refused};
+use text::Cursor;
 
 // Reads an ask line, with groups or without, from its query on. Without them it admits all groups.
-fn read_ask(file: &[u8], recs: &mut [u32], k: Counts, grouped: bool, c: Cursor) -> Step
+fn read_ask(
+    file: &[u8],
+    recs: &mut [u32],
+    k: Counts,
+    grouped: bool,
+    c: Cursor,
+) -> Result<Counts, Refusal>
     requires { Placed file.now c × (k.asks < ask_room) × (working_words ≤ length recs.old) }
     ensures { Asks recs.old recs.new k
         (content (ask_line_kind grouped) k.grouped k.terms (fields_left file.now c)) result }
 {
-    match c.number(file, model::MOST_QUERY) {
-        NumberStep::Number(q, next) => match next.number(file, model::MOST_OPTIONS) {
-            NumberStep::Number(options, after) => {
-                match fields::number_or(
-                    file,
-                    grouped,
-                    model::MOST_GROUPS,
-                    model::MOST_GROUPS,
-                    after,
-                ) {
-                    NumberStep::Number(groups, last) => {
-                        if last.at <= last.end {
-                            return Step::Refused(Refusal::Form);
-                        }
-                        let mut added = records::add_ask(recs, k, records::ASK, q, options, groups);
-                        if grouped {
-                            added.grouped = true;
-                        }
-                        Step::On(added)
-                    }
-                    NumberStep::Refused(r) => Step::Refused(r),
-                }
-            }
-            NumberStep::Refused(r) => Step::Refused(r),
-        },
-        NumberStep::Refused(r) => Step::Refused(r),
+    let (q, next) = c.number(file, model::MOST_QUERY)?;
+    let (options, after) = next.number(file, model::MOST_OPTIONS)?;
+    let (groups, last) = fields::number_or(
+        file,
+        grouped,
+        model::MOST_GROUPS,
+        model::MOST_GROUPS,
+        after,
+    )?;
+    if last.at <= last.end {
+        return Err(Refusal::Form);
     }
+    let mut added = records::add_ask(recs, k, records::ASK, q, options, groups);
+    if grouped {
+        added.grouped = true;
+    }
+    Ok(added)
 }
 
 // Reads an `also`, from its query on.
-fn read_also(file: &[u8], recs: &mut [u32], k: Counts, c: Cursor) -> Step
+fn read_also(file: &[u8], recs: &mut [u32], k: Counts, c: Cursor) -> Result<Counts, Refusal>
     requires { Placed file.now c × (0 < k.asks) × (k.asks < ask_room) × (working_words ≤ length recs.old) }
     ensures { Asks recs.old recs.new k
         (content kind.Also k.grouped k.terms (fields_left file.now c)) result }
 {
-    match c.number(file, model::MOST_QUERY) {
-        NumberStep::Number(q, last) => {
-            if last.at <= last.end {
-                return Step::Refused(Refusal::Form);
-            }
-            Step::On(records::add_ask(recs, k, records::ALSO, q, 0, 0))
-        }
-        NumberStep::Refused(r) => Step::Refused(r),
+    let (q, last) = c.number(file, model::MOST_QUERY)?;
+    if last.at <= last.end {
+        return Err(Refusal::Form);
     }
+    Ok(records::add_ask(recs, k, records::ALSO, q, 0, 0))
 }
 
-// Reads a line of a kind, from the field after the kind on.
+// Reads a line of a kind, from the field after the kind on. The lent slices stay apart, as C lends them.
 fn read_kind(
     file: &[u8],
     names: &mut [u32],
@@ -89,7 +74,7 @@ fn read_kind(
     n: usize,
     kind: Kind,
     c: Cursor,
-) -> Step
+) -> Result<Counts, Refusal>
     requires { Standing file.now names.old refs.old rows.old recs.old lists.old k × Placed file.now c
         × (n < 4294967296) × ((grouped : Bool) → kind ≡ Kind.Ask grouped → k.asks < ask_room)
         × (kind ≡ Kind.Also → (0 < k.asks) × (k.asks < ask_room)) }
@@ -103,7 +88,6 @@ fn read_kind(
         Kind::Hide => filing::read_hide(file, names, refs, rows, recs, lists, k, n, c),
         Kind::Term(t) => nodes::read_term(file, names, refs, rows, k, t, c),
         Kind::Record(r) => filing::read_record(file, names, refs, rows, recs, lists, k, n, r, c),
-        Kind::No(x) => Step::Refused(x),
     }
 }
 
@@ -119,7 +103,7 @@ fn read_line(
     n: usize,
     a: usize,
     e: usize,
-) -> Step
+) -> Result<Counts, Refusal>
     requires { Standing file.now names.old refs.old rows.old recs.old lists.old k × (a ≤ e)
         × (e ≤ length file.now) × (n < 4294967296) }
     ensures { LineRead file.now names.old refs.old rows.old
@@ -129,19 +113,15 @@ fn read_line(
         lists.old k) (fields (part file.now a e))) result }
 {
     let c = Cursor { at: a, end: e };
-    match c.field(file) {
-        FieldStep::Part { start, end, next } => {
-            let kind = fields::line_kind(file, k, start, end);
-            if !fields::counted(file, k, kind, a, e) {
-                return Step::Refused(Refusal::Form);
-            }
-            read_kind(file, names, refs, rows, recs, lists, k, n, kind, next)
-        }
-        FieldStep::Refused(r) => Step::Refused(r),
+    let first = c.field(file)?;
+    let kind = fields::line_kind(file, k, first.start, first.end)?;
+    if !fields::counted(file, k, kind, a, e) {
+        return Err(Refusal::Form);
     }
+    read_kind(file, names, refs, rows, recs, lists, k, n, kind, first.next)
 }
 
-// Reads a file, line after line, and fills the macro column.
+// Reads a file, line after line, and fills the macro column: the counts after the last line, or a refusal and its line.
 pub fn read_file(
     file: &[u8],
     names: &mut [u32],
@@ -149,14 +129,17 @@ pub fn read_file(
     rows: &mut [u32],
     recs: &mut [u32],
     lists: &mut [u32],
-) -> Reading
+) -> Result<Counts, Refused>
     requires { TablesCleared file.now names.old refs.old rows.old recs.old lists.old }
     ensures { FileRead file.now names.old refs.old rows.old
         recs.old lists.old names.new refs.new rows.new recs.new
         lists.new result }
 {
     if file.len() == 0 {
-        return Reading::Refused(Refusal::Form, 1);
+        return Err(Refused {
+            refusal: Refusal::Form,
+            place: 1,
+        });
     }
     let mut k = Counts {
         asks: 0,
@@ -172,22 +155,30 @@ pub fn read_file(
     };
     let mut n: usize = 1;
     let mut from: usize = 0;
+    // A line ends where its 0A stands: the step is not by one, and the file is a part of the caller's, which is read in place.
     while from < file.len() {
         let end = text::find(file, b'\n', from, file.len());
         if end == file.len() {
-            return Reading::Refused(Refusal::Form, n);
+            return Err(Refused {
+                refusal: Refusal::Form,
+                place: n as u32,
+            });
         }
         match read_line(file, names, refs, rows, recs, lists, k, n, from, end) {
-            Step::On(next) => {
-                k = next;
+            Ok(next) => {
+                // Field by field: as a whole the counts are copied with their padding, which takes 33 instructions more a line.
+                k = Counts { ..next };
             }
-            Step::Refused(r) => {
-                return Reading::Refused(r, n);
+            Err(refusal) => {
+                return Err(Refused {
+                    refusal,
+                    place: n as u32,
+                });
             }
         }
         n += 1;
         from = end + 1;
     }
     macros::open_macros(names, recs, k.names);
-    Reading::Read(k)
+    Ok(k)
 }

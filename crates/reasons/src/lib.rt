@@ -10,30 +10,29 @@ ghost use Rattle.prune.specs.Rows.{RowsBehind};
 ghost use Rattle.reasons.specs.Rows.{supplied, lists_name, row_due, rows_at};
 ghost use Rattle.reasons.specs.Rows.{EntriesIn, Explainable, RowsPut};
 
-use model::Counts;
+use firing::tables::RecordTables;
 
 // Whether an entry of a record has the name.
-fn lists_name(recs: &[u32], lists: &[u32], i: usize, n: usize) -> bool
-    requires { EntriesIn recs.now lists.now i }
-    ensures { result ≡ lists_name recs.now lists.now i n }
+fn lists_name(tables: &RecordTables, i: usize, n: usize) -> bool
+    requires { EntriesIn tables.now.recs.now tables.now.lists.now i }
+    ensures { result ≡ lists_name tables.now.recs.now tables.now.lists.now i n }
 {
-    let a = words::at(recs, records::ENTRIES_START + i);
-    let e = words::at(recs, records::ENTRIES_END + i);
-    let mut j = a;
-    while j < e {
-        let x = words::at(lists, triggers::ENTRIES + j);
+    let a = words::at(tables.recs, records::ENTRIES_START + i);
+    let e = words::at(tables.recs, records::ENTRIES_END + i);
+    for j in a..e {
+        let x = words::at(tables.lists, triggers::ENTRIES + j);
         if x % triggers::LAST == n {
             return true;
         }
-        j += 1;
     }
     false
 }
 
 // Whether a reached record has a row for a name: met, no later than in the record's round, and listed.
-fn row_due(recs: &[u32], lists: &[u32], run: &[u32], i: usize, n: usize) -> bool
-    requires { EntriesIn recs.now lists.now i × (working_words ≤ length run.now) × (n < most_names) }
-    ensures { result ≡ row_due recs.now lists.now run.now i n }
+#[tactic(auto, using(crate::proofs::Listed::due_unmet, crate::proofs::Listed::due_late, crate::proofs::Listed::due_listed))]
+fn row_due(tables: &RecordTables, run: &[u32], i: usize, n: usize) -> bool
+    requires { EntriesIn tables.now.recs.now tables.now.lists.now i × (working_words ≤ length run.now) × (n < most_names) }
+    ensures { result ≡ row_due tables.now.recs.now tables.now.lists.now run.now i n }
 {
     let met = words::at(run, n);
     if met == 0 {
@@ -42,37 +41,27 @@ fn row_due(recs: &[u32], lists: &[u32], run: &[u32], i: usize, n: usize) -> bool
     if words::at(run, firing::REACHED + i) < met {
         return false;
     }
-    lists_name(recs, lists, i, n)
+    lists_name(tables, i, n)
 }
 
 // Puts the rows of a record behind the first `at` rows, by listed name in byte order; how many there are then.
-fn put_rows_of(
-    names: &[u32],
-    refs: &mut [u32],
-    recs: &[u32],
-    lists: &[u32],
-    run: &[u32],
-    k: Counts,
-    i: usize,
-    at: usize,
-) -> usize
-    requires { Explainable names.now refs.old recs.now lists.now run.now k × (i < k.records)
-        × (at + length (rows_at names.now recs.now lists.now run.now (supplied run.now) k.names i) ≤ most_rows) }
-    ensures { RowsBehind refs.old at (rows_at names.now recs.now lists.now
-        run.now (supplied run.now) k.names i) refs.new result }
+fn put_rows_of(tables: &RecordTables, refs: &mut [u32], run: &[u32], i: usize, at: usize) -> usize
+    requires { Explainable tables.now.names.now refs.old tables.now.recs.now tables.now.lists.now run.now tables.now.k
+        × (i < tables.now.k.records)
+        × (at + length (rows_at tables.now.names.now tables.now.recs.now tables.now.lists.now run.now (supplied run.now)
+        tables.now.k.names i) ≤ most_rows) }
+    ensures { RowsBehind refs.old at (rows_at tables.now.names.now tables.now.recs.now tables.now.lists.now
+        run.now (supplied run.now) tables.now.k.names i) refs.new result }
 {
-    let named = k.names;
     let mut to = at;
-    let mut r = 0;
-    while r < named {
-        let n = words::at(names, names::INDEX + r);
-        r += 1;
-        if !row_due(recs, lists, run, i, n) {
+    for r in 0..tables.k.names {
+        let n = words::at(tables.names, names::INDEX + r);
+        if !row_due(tables, run, i, n) {
             continue;
         }
         let supplier = words::at(run, suppliers::SUPPLIER + n);
-        let line = recs[records::LINE + i];
-        let cause = recs[records::LINE + (supplier - 1)];
+        let line = tables.recs[records::LINE + i];
+        let cause = tables.recs[records::LINE + (supplier - 1)];
         rows::put_row(refs, to, line, n as u32, cause);
         to += 1;
     }
@@ -81,28 +70,17 @@ fn put_rows_of(
 
 // Puts the rows of all reached facts into words, by the names of the facts and then by listed name, both in byte order; how
 // many there are.
-pub fn put_rows(
-    names: &[u32],
-    refs: &mut [u32],
-    recs: &[u32],
-    lists: &[u32],
-    run: &[u32],
-    k: Counts,
-) -> usize
-    requires { Explainable names.now refs.old recs.now lists.now run.now k }
-    ensures { RowsPut names.now recs.now lists.now run.now k
-        refs.old refs.new result }
+pub fn put_rows(tables: &RecordTables, refs: &mut [u32], run: &[u32]) -> usize
+    requires { Explainable tables.now.names.now refs.old tables.now.recs.now tables.now.lists.now run.now tables.now.k }
+    ensures { RowsPut tables.now.names.now tables.now.recs.now tables.now.lists.now run.now tables.now.k refs.old refs.new result }
 {
-    let named = k.names;
     let mut to = 0;
-    let mut r = 0;
-    while r < named {
-        let t = prune::reached_at(names, run, named, r);
-        r += 1;
+    for r in 0..tables.k.names {
+        let t = prune::reached_at(tables, run, r);
         if t == 0 {
             continue;
         }
-        to = put_rows_of(names, refs, recs, lists, run, k, t - 1, to);
+        to = put_rows_of(tables, refs, run, t - 1, to);
     }
     to
 }

@@ -30,7 +30,7 @@ use Rattle.gather.proofs.Walking.{rows_marked}
 use Rattle.rules.specs.Views.{terms_in}
 use Rattle.triggers.specs.Entries.{disjuncts_of, entries_base, last_flag, no_name}
 use Rattle.triggers.proofs.Marked.{terms_marked}
-use Rattle.model.specs.declared.Step.TheVariants as step
+use Rattle.model.specs.Steps as step
 use Rattle.records.specs.Columns.{record_kind, assume_kind, retain_kind, root_kind, hide_kind, entry_word, entry_name, entry_fact, ask_query_column, ask_options_column, ask_kind_column, ask_groups_column}
 use Rattle.records.specs.States.{summary_at, root_at, hides_at, decls_of, roots_of, hides_of, hidden_of, excluded_of, also_at, ask_at, asks_of, state_of}
 use Rattle.records.specs.Filing.{Records, Termed, Chained, Filing, Taken}

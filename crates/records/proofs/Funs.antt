@@ -15,7 +15,7 @@ use Rattle.names.specs.Table.{name_of}
 use Rattle.words.specs.Slices.{SameBut}
 use Rattle.words.proofs.Slices.{same_self, same_wider}
 use Rattle.gather.specs.Sets.{Fresh}
-use Rattle.model.specs.declared.Step.TheVariants as step
+use Rattle.model.specs.Steps as step
 use Rattle.model.specs.Outcome.{working_words}
 use Rattle.records.specs.Columns.{fun_kind, retain_kind, hide_kind, taken_column, taken_at}
 use Rattle.records.specs.States.{summary_at, root_at, hides_at, decl_at, state_of}

@@ -9,7 +9,7 @@ use Rattle.model.specs.Lists.{any, sum, collect, fold_left}
 use Rattle.model.specs.Reading.{head, hide, heads, head_asks, is_grouped, hidden_by, nodes, spelled, trimmed, summarize_decl, root_of, taken_by, repeats, most_names, most_records}
 use Rattle.model.specs.declared.Counts.{Counts}
 use Rattle.model.specs.declared.Refusal.TheVariants as refusal
-use Rattle.model.specs.declared.Step.TheVariants as step
+use Rattle.model.specs.Steps as step
 use Rattle.model.specs.Outcome.{working_words}
 use Rattle.names.specs.Table.{name_of, excluded_at}
 use Rattle.names.proofs.Excluded.{excluded_but, excluded_table, excludes_one}

@@ -21,11 +21,10 @@ use Rattle.terms.specs.Rows.{terms_of}
 use Rattle.words.specs.Slices.{SameBut}
 use Rattle.words.proofs.Slices.{same_wider}
 use Rattle.gather.specs.Sets.{Fresh, Named, Gathers, all_names, no_room, Gathered, ended}
-use Rattle.gather.specs.declared.Walked.{Walked}
-use Rattle.gather.specs.declared.Walked.TheVariants as walks
+use Rattle.std.specs.Prelude.{Option, None, Some}
 use Rattle.rules.specs.Views.{terms_in}
 use Rattle.gather.proofs.Fresh.{fresh_next}
-use Rattle.model.specs.declared.Step.TheVariants as step
+use Rattle.model.specs.Steps as step
 use Rattle.model.specs.Outcome.{working_words}
 use Rattle.records.specs.Columns.{def_kind, root_kind, taken_column, taken_at}
 use Rattle.records.specs.States.{free_at, summary_at, root_at, hides_at, decl_at, excluded_of, state_of}
@@ -52,19 +51,19 @@ named_here : {file names refs rows recs lists : List ℕ} {k : Counts} → Stand
     → Named (excluded_of (name_of file names) recs k.records) (name_of file names) names k.names
 named_here st = record { distinct = distinct st.tables.name_table; excluded = st.hiding.excludes }
 
-module _ {file names refs rows recs lists names' rows' lists' : List ℕ} {k : Counts} (st : Standing file names refs rows recs lists k) (t : ℕ) {r : Walked}
+module _ {file names refs rows recs lists names' rows' lists' : List ℕ} {k : Counts} (st : Standing file names refs rows recs lists k) (t : ℕ) {r : Option ℕ}
     (gathers : (exclude : List Name) (name : ℕ → Name) → Named exclude name names k.names → Gathers name k.names
     (free_top_level_names exclude (terms_of name refs rows k.references k.terms) t) k.uses most_uses lists' r)
     (slices : Gathered names rows lists names' rows' lists' k.mark k.uses most_uses r) where
   -- all the names have room
-  pub gathered_uses : {n : ℕ} → r ≡ walks.Names n → Uses file names rows lists names' rows' lists' k
+  pub gathered_uses : {n : ℕ} → r ≡ Some n → Uses file names rows lists names' rows' lists' k
       (free_top_level_names (excluded_of (name_of file names) recs k.records) (terms_in file names refs rows k.references k.terms) t) n
   unfolding terms_in ended
   gathered_uses {n} e = go (rw e at (gathers (excluded_of (name_of file names) recs k.records) (name_of file names) (named_here st))) (rw e at slices)
     where
       go : Gathers (name_of file names) k.names (free_top_level_names (excluded_of (name_of file names) recs k.records) (terms_of (name_of file names) refs rows k.references k.terms) t)
-          k.uses most_uses lists' (walks.Names n)
-          → Gathered names rows lists names' rows' lists' k.mark k.uses most_uses (walks.Names n)
+          k.uses most_uses lists' (Some n)
+          → Gathered names rows lists names' rows' lists' k.mark k.uses most_uses (Some n)
           → Uses file names rows lists names' rows' lists' k (free_top_level_names (excluded_of (name_of file names) recs k.records) (terms_of (name_of file names) refs rows k.references k.terms) t) n
       go (all_names is count fits small) s = record {
         is = is;
@@ -78,12 +77,12 @@ module _ {file names refs rows recs lists names' rows' lists' : List ℕ} {k : C
       }
 
   -- some have none
-  pub gathered_over : r ≡ walks.Full → most_uses < k.uses + length (free_top_level_names (excluded_of (name_of file names) recs k.records) (terms_in file names refs rows k.references k.terms) t)
+  pub gathered_over : r ≡ None → most_uses < k.uses + length (free_top_level_names (excluded_of (name_of file names) recs k.records) (terms_in file names refs rows k.references k.terms) t)
   unfolding terms_in
   gathered_over e = go (rw e at (gathers (excluded_of (name_of file names) recs k.records) (name_of file names) (named_here st)))
     where
       go : Gathers (name_of file names) k.names (free_top_level_names (excluded_of (name_of file names) recs k.records) (terms_of (name_of file names) refs rows k.references k.terms) t)
-          k.uses most_uses lists' walks.Full
+          k.uses most_uses lists' None
           → most_uses < k.uses + length (free_top_level_names (excluded_of (name_of file names) recs k.records) (terms_of (name_of file names) refs rows k.references k.terms) t)
       go (no_room h small) = omega arith
 

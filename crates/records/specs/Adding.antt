@@ -1,6 +1,5 @@
 -- A record line added to the tables, its name spelled before.
 use Rattle.std.specs.Prelude.{ℕ, ◌+◌, ◌*◌, ◌≤◌, ◌<◌, ◌≡◌, cond, List}
-use Rattle.model.specs.Names.{Name}
 use Rattle.model.specs.Reading.{Result, ok, refused, Content, State, add_line, repeats, limits, under_limits, most_names}
 use Rattle.model.specs.Summaries.{exclude_names}
 use Rattle.model.specs.Outcome.{working_words}
@@ -10,8 +9,8 @@ use Rattle.model.specs.declared.Refusal.TheVariants as refusal
 use Rattle.words.specs.Slices.{SameBut}
 use Rattle.gather.specs.Sets.{Fresh}
 use Rattle.rules.specs.Views.{Tables}
-use Rattle.model.specs.declared.Step.{Step}
-use Rattle.model.specs.declared.Step.TheVariants as step
+use Rattle.model.specs.Steps.{Step}
+use Rattle.model.specs.Steps as step
 use Rattle.records.specs.States.{state_of}
 use Rattle.records.specs.Filing.{Records, Termed, Stocked, Hiding}
 

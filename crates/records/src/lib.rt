@@ -10,8 +10,7 @@ ghost use Rattle.records.specs.States.{takes_part, also_at, ask_of, asked_at};
 ghost use Rattle.records.specs.Writing.{put_row, with_record, with_hide, Small, Rowed, with_ask, AskedAt};
 ghost use Rattle.records.specs.Adding.{Standing, Adds, Untouched};
 
-use gather::Walked;
-use model::{Asked, Counts, Refusal, Step};
+use model::{Asked, Counts, Refusal};
 
 // The columns of the records slice, by the record's number.
 pub const KIND: usize = 0;
@@ -45,6 +44,8 @@ const ASK_KIND: usize = 11296;
 
 const ASK_GROUPS: usize = 11312;
 
+// Kinds and codes are numbers here, since they are words of the lent slice, which functions compare and never take apart.
+//
 // The kinds of the lines of positions: an ask has a chain of its own, an also goes on with that of the position before.
 pub const ASK: u32 = 0;
 
@@ -77,22 +78,24 @@ pub const FACT: usize = 8192;
 
 pub const NEXT: usize = 10240;
 
-// The columns of the names slice, by the name's number: the record that took it and one, its macro word, the newest entry on it and one.
+// The columns of the names slice, by the name's number: the record that took it and one, its macro word, the newest entry on it
+// and one.
 pub const TAKEN: usize = 10240;
 
 pub const MACRO: usize = 12288;
 
 pub const FIRST: usize = 14336;
 
+// The slices that are written stay parameters here: as fields of one struct each that a function leaves alone wants a clause of
+// its own.
+
 // Writes the row of a record: a word for each of its eleven columns.
 fn put_row(recs: &mut [u32], i: usize, row: &[u32])
     requires { (i < most_records) × (working_words ≤ length recs.old) × (length row.now ≡ 11) }
     ensures { recs.new ≡ put_row recs.old i 0 row.now }
 {
-    let mut c: usize = 0;
-    while c < row.len() {
+    for c in 0..row.len() {
         recs[c * model::MOST_RECORDS + i] = row[c];
-        c += 1;
     }
 }
 
@@ -101,13 +104,14 @@ pub fn with_record(k: Counts, named: usize, entries: usize, uses: usize, mark: u
     requires { k.records < most_records }
     ensures { result ≡ with_record k named entries uses mark }
 {
-    let mut next = k;
-    next.names = named;
-    next.records = k.records + 1;
-    next.entries = entries;
-    next.uses = uses;
-    next.mark = mark;
-    next
+    Counts {
+        names: named,
+        records: k.records + 1,
+        entries,
+        uses,
+        mark,
+        ..k
+    }
 }
 
 // The counts with a hide line more.
@@ -115,9 +119,11 @@ fn with_hide(k: Counts) -> Counts
     requires { (k.records < most_records) × (k.hides ≤ k.records) }
     ensures { result ≡ with_hide k }
 {
-    let mut next = with_record(k, k.names, k.entries, k.uses, k.mark);
-    next.hides = k.hides + 1;
-    next
+    let next = with_record(k, k.names, k.entries, k.uses, k.mark);
+    Counts {
+        hides: k.hides + 1,
+        ..next
+    }
 }
 
 // Writes the row of the record after those counted: its free names and entries are those from the counts `k` on up to `next`.
@@ -171,9 +177,7 @@ pub fn add_ask(
     recs[ASK_OPTIONS + i] = options;
     recs[ASK_KIND + i] = kind;
     recs[ASK_GROUPS + i] = groups;
-    let mut next = k;
-    next.asks = i + 1;
-    next
+    Counts { asks: i + 1, ..k }
 }
 
 // Whether a position is that of an also line.
@@ -193,6 +197,7 @@ pub fn ask_at(recs: &[u32], i: usize) -> Asked
     ensures { result ≡ asked_at recs.now i }
 {
     let mut first = i;
+    // No range: how far back the last ask line stands is not known before.
     while is_also(recs, first) {
         first -= 1;
     }
@@ -220,10 +225,7 @@ pub fn asks_for(recs: &[u32], a: Asked, q: usize) -> bool
     requires { (a.end ≤ ask_room) × (working_words ≤ length recs.now) }
     ensures { result ≡ asks_for (ask_of recs.now a) q }
 {
-    let first = a.first;
-    let mut i = a.end;
-    while first < i {
-        i -= 1;
+    for i in a.first..a.end {
         if words::at(recs, ASK_QUERY + i) == q {
             return true;
         }
@@ -242,7 +244,7 @@ pub fn add_hide(
     k: Counts,
     line: usize,
     i: usize,
-) -> Step
+) -> Result<Counts, Refusal>
     requires { (k.names ≤ most_names → Standing file.now names.old refs.now rows.now recs.old lists.now k
         × (i < k.names)) × (line < 4294967296) }
     ensures record { Adds file.now names.old refs.now rows.now
@@ -252,15 +254,15 @@ pub fn add_hide(
         names.new rows.now recs.new lists.now }
 {
     if model::MOST_NAMES < k.names {
-        return Step::Refused(Refusal::FullNames);
+        return Err(Refusal::FullNames);
     }
     if model::MOST_RECORDS <= k.records {
-        return Step::Refused(Refusal::FullRecords);
+        return Err(Refusal::FullRecords);
     }
     names::exclude(names, i);
     let next = with_hide(k);
     put_record(recs, k, next, HIDE, line, i, 0, 0, 0, 0);
-    Step::On(next)
+    Ok(next)
 }
 
 // Adds a `retain` record.
@@ -273,7 +275,7 @@ pub fn add_retain(
     lists: &[u32],
     k: Counts,
     line: usize,
-) -> Step
+) -> Result<Counts, Refusal>
     requires { (k.names ≤ most_names → Standing file.now names.now refs.now rows.now recs.old lists.now k)
         × (line < 4294967296) }
     ensures record { Adds file.now names.now refs.now rows.now
@@ -283,14 +285,14 @@ pub fn add_retain(
         names.now rows.now recs.new lists.now }
 {
     if model::MOST_NAMES < k.names {
-        return Step::Refused(Refusal::FullNames);
+        return Err(Refusal::FullNames);
     }
     if model::MOST_RECORDS <= k.records {
-        return Step::Refused(Refusal::FullRecords);
+        return Err(Refusal::FullRecords);
     }
     let next = with_record(k, k.names, k.entries, k.uses, k.mark);
     put_record(recs, k, next, RETAIN, line, 0, 0, 0, 0, 0);
-    Step::On(next)
+    Ok(next)
 }
 
 // Adds a `fun` record, its name by number.
@@ -304,7 +306,7 @@ pub fn add_fun(
     k: Counts,
     line: usize,
     i: usize,
-) -> Step
+) -> Result<Counts, Refusal>
     requires { (k.names ≤ most_names → Standing file.now names.old refs.now rows.now recs.old lists.now k
         × (i < k.names)) × (line < 4294967296) }
     ensures record { Adds file.now names.old refs.now rows.now
@@ -314,18 +316,18 @@ pub fn add_fun(
         names.new rows.now recs.new lists.now }
 {
     if model::MOST_NAMES < k.names {
-        return Step::Refused(Refusal::FullNames);
+        return Err(Refusal::FullNames);
     }
     if 0 < words::at(names, TAKEN + i) {
-        return Step::Refused(Refusal::Repeated);
+        return Err(Refusal::Repeated);
     }
     if model::MOST_RECORDS <= k.records {
-        return Step::Refused(Refusal::FullRecords);
+        return Err(Refusal::FullRecords);
     }
     names[TAKEN + i] = (k.records + 1) as u32;
     let next = with_record(k, k.names, k.entries, k.uses, k.mark);
     put_record(recs, k, next, FUN, line, i, 0, 0, 0, 0);
-    Step::On(next)
+    Ok(next)
 }
 
 // Adds a `def` record, its name and its term by number.
@@ -340,7 +342,7 @@ pub fn add_def(
     line: usize,
     i: usize,
     t: usize,
-) -> Step
+) -> Result<Counts, Refusal>
     requires { (k.names ≤ most_names → Standing file.now names.old refs.now rows.old recs.old lists.old k
         × (i < k.names)) × (t < k.terms) × (line < 4294967296) }
     ensures record { Adds file.now names.old refs.now rows.old
@@ -350,16 +352,16 @@ pub fn add_def(
         names.new rows.new recs.new lists.new }
 {
     if model::MOST_NAMES < k.names {
-        return Step::Refused(Refusal::FullNames);
+        return Err(Refusal::FullNames);
     }
     if 0 < words::at(names, TAKEN + i) {
-        return Step::Refused(Refusal::Repeated);
+        return Err(Refusal::Repeated);
     }
     if model::MOST_RECORDS <= k.records {
-        return Step::Refused(Refusal::FullRecords);
+        return Err(Refusal::FullRecords);
     }
     let mark = k.mark as u32;
-    let Walked::Names(uses) = gather::gather_term(
+    let uses = gather::gather_term(
         names,
         refs,
         rows,
@@ -371,13 +373,12 @@ pub fn add_def(
         mark,
         k.uses,
         model::MOST_USES,
-    ) else {
-        return Step::Refused(Refusal::FullTriggers);
-    };
+    )
+    .ok_or(Refusal::FullTriggers)?;
     names[TAKEN + i] = (k.records + 1) as u32;
     let next = with_record(k, k.names, k.entries, uses, k.mark + 1);
     put_record(recs, k, next, DEF, line, i, t, 0, 0, 0);
-    Step::On(next)
+    Ok(next)
 }
 
 // Adds a `root` record of a query, its name and its term by number.
@@ -393,7 +394,7 @@ pub fn add_root(
     query: usize,
     i: usize,
     t: usize,
-) -> Step
+) -> Result<Counts, Refusal>
     requires { (k.names ≤ most_names → Standing file.now names.old refs.now rows.old recs.old lists.old k
         × (i < k.names)) × (t < k.terms) × (line < 4294967296) × (query < 256) }
     ensures record { Adds file.now names.old refs.now rows.old
@@ -403,13 +404,13 @@ pub fn add_root(
         names.new rows.new recs.new lists.new }
 {
     if model::MOST_NAMES < k.names {
-        return Step::Refused(Refusal::FullNames);
+        return Err(Refusal::FullNames);
     }
     if model::MOST_RECORDS <= k.records {
-        return Step::Refused(Refusal::FullRecords);
+        return Err(Refusal::FullRecords);
     }
     let mark = k.mark as u32;
-    let Walked::Names(uses) = gather::gather_term(
+    let uses = gather::gather_term(
         names,
         refs,
         rows,
@@ -421,10 +422,9 @@ pub fn add_root(
         mark,
         k.uses,
         model::MOST_USES,
-    ) else {
-        return Step::Refused(Refusal::FullTriggers);
-    };
+    )
+    .ok_or(Refusal::FullTriggers)?;
     let next = with_record(k, k.names, k.entries, uses, k.mark + 1);
     put_record(recs, k, next, ROOT, line, i, t, query, 0, 0);
-    Step::On(next)
+    Ok(next)
 }

@@ -4,23 +4,25 @@
 ghost use Rattle.std.specs.Prelude.{◌*◌, ◌≤◌, length};
 ghost use Rattle.names.specs.Table.{Table};
 
-use front::Opened;
 use model::{Ordered, Verdict, Why};
+use std::io::{self, ErrorKind, Write};
 
-// Prints rows, of reasons or of the check, with the names of a table; whether each line was written.
-fn print_named(
+// Prints rows, of reasons or of the check, with the names of a table.
+fn print_named<W: Write>(
+    writer: &mut W,
     file: &[u8],
     names: &[u32],
     named: usize,
     rows: &[u32],
     count: usize,
     reasons: bool,
-) -> bool
+) -> io::Result<()>
     requires { Table file.now names.now named × (2 * count ≤ length rows.now) }
 {
     let mut starts = [0u32; 65536];
     let mut text = [0u8; 196736];
     printing::print_rows(
+        writer,
         file,
         names,
         named,
@@ -32,8 +34,14 @@ fn print_named(
     )
 }
 
-// Prints rows that stand in words, of reasons or of the check; whether each line was written.
-fn print_rows(file: &[u8], rows: &[u32], count: usize, reasons: bool) -> bool
+// Prints rows that stand in words, of reasons or of the check.
+fn print_rows<W: Write>(
+    writer: &mut W,
+    file: &[u8],
+    rows: &[u32],
+    count: usize,
+    reasons: bool,
+) -> io::Result<()>
     requires { 2 * count ≤ length rows.now }
 {
     let mut w0 = [0u32; model::WORKING_WORDS];
@@ -43,52 +51,58 @@ fn print_rows(file: &[u8], rows: &[u32], count: usize, reasons: bool) -> bool
     let mut w4 = [0u32; model::WORKING_WORDS];
     let mut w5 = [0u32; model::WORKING_WORDS];
     match front::open_file(file, &mut w0, &mut w1, &mut w2, &mut w3, &mut w4, &mut w5) {
-        Opened::Read(k) => print_named(file, &w0, k.names, rows, count, reasons),
-        Opened::Refused(_, _) => false,
+        Ok(k) => print_named(writer, file, &w0, k.names, rows, count, reasons),
+        // A file whose rows were found is not refused.
+        Err(_) => Err(ErrorKind::InvalidData.into()),
     }
 }
 
-// Prints rows of reasons and the two counts; whether each line was written.
-fn print_reasons(file: &[u8], rows: &[u32], count: usize, met: usize) -> bool
+// Prints rows of reasons and the two counts.
+fn print_reasons<W: Write>(
+    writer: &mut W,
+    file: &[u8],
+    rows: &[u32],
+    count: usize,
+    met: usize,
+) -> io::Result<()>
     requires { 2 * count ≤ length rows.now }
 {
-    if !print_rows(file, rows, count, true) {
-        return false;
-    }
-    if !printing::print_count(b"met", met) {
-        return false;
-    }
-    printing::print_count(b"rows", count)
+    print_rows(writer, file, rows, count, true)?;
+    printing::print_count(writer, b"met", met)?;
+    printing::print_count(writer, b"rows", count)
 }
 
-// Prints what the call of reasons comes to, its rows in words; whether each line was written.
-pub fn print_why(file: &[u8], w: Why, rows: &[u32]) -> bool
+// Prints what the call of reasons comes to, its rows in words.
+pub fn print_why<W: Write>(writer: &mut W, file: &[u8], w: Why, rows: &[u32]) -> io::Result<()>
     requires { 2 * w.rows ≤ length rows.now }
 {
     let v = w.verdict;
     match v {
-        Verdict::Accepted => print_reasons(file, rows, w.rows, w.met),
-        Verdict::Refused(r) => printing::print_refusal(r, w.place),
+        Verdict::Accepted => print_reasons(writer, file, rows, w.rows, w.met),
+        Verdict::Refused(r) => printing::print_refusal(writer, r, w.place),
     }
 }
 
-// Prints rows of the check and their count; whether each line was written.
-fn print_late(file: &[u8], rows: &[u32], count: usize) -> bool
+// Prints rows of the check and their count.
+fn print_late<W: Write>(writer: &mut W, file: &[u8], rows: &[u32], count: usize) -> io::Result<()>
     requires { 2 * count ≤ length rows.now }
 {
-    if !print_rows(file, rows, count, false) {
-        return false;
-    }
-    printing::print_count(b"rows", count)
+    print_rows(writer, file, rows, count, false)?;
+    printing::print_count(writer, b"rows", count)
 }
 
-// Prints what the call of the check comes to, its rows in words; whether each line was written.
-pub fn print_order(file: &[u8], o: Ordered, rows: &[u32]) -> bool
+// Prints what the call of the check comes to, its rows in words.
+pub fn print_order<W: Write>(
+    writer: &mut W,
+    file: &[u8],
+    o: Ordered,
+    rows: &[u32],
+) -> io::Result<()>
     requires { 2 * o.rows ≤ length rows.now }
 {
     let v = o.verdict;
     match v {
-        Verdict::Accepted => print_late(file, rows, o.rows),
-        Verdict::Refused(r) => printing::print_refusal(r, o.place),
+        Verdict::Accepted => print_late(writer, file, rows, o.rows),
+        Verdict::Refused(r) => printing::print_refusal(writer, r, o.place),
     }
 }

@@ -37,10 +37,8 @@ pub fn write_rows(core: &[u32], count: usize, rows: &mut [Row])
     requires { (2 * count ≤ length core.now) × (count ≤ length rows.old) }
     ensures { rows.new ≡ rows_held count core.now ++ drop count rows.old }
 {
-    let mut i: usize = 0;
-    while i < count {
+    for i in 0..count {
         rows[i] = row_at(core, i);
-        i += 1;
     }
 }
 

@@ -2,7 +2,7 @@
 use Prim.Native.Nat.{ℕ, suc, ◌<◌}
 use mathlib.Core.Path.{◌≡◌, refl, sym, ap, ◌∙◌}
 use mathlib.Core.Bool.{Bool, true, false, cond}
-use mathlib.Core.Option.{Option, none, some, get_or}
+use Rattle.std.specs.Prelude.{Option, None as none, Some as some, unwrap_or as get_or}
 use mathlib.Core.List.{List, [], ◌∷◌, map}
 use lib.Dec.{eqb}
 use Rattle.model.specs.Lists.{find_index, collect, holds, is_nil, or_else, when, ◌>>=◌}
@@ -17,7 +17,10 @@ use Rattle.terms.specs.Rows.{row_head, groups_at}
 use Rattle.rules.specs.declared.Choice.{Choice}
 use Rattle.rules.specs.declared.Choice.TheVariants as choice
 use Rattle.rules.specs.Views.{Tables, terms_in}
-use Rattle.rules.specs.Choices.{refinement_kind, parts_kind, kinded, choose_1, choose_2, choose_3, choose_4, choose_5, choose_6, choose_7, choose_8, choose_9, choose_10, choose_11, choose_12, token_choice, first_choice, ambient_choice, ambient_number, kind_choice}
+use Rattle.rules.specs.declared.Ruled.{Ruled}
+use Rattle.rules.specs.declared.tables.TermTables.{TermTables}
+use Rattle.rules.specs.Read.{name_numbered, IsFact, RuledAs, terms as tables_terms}
+use Rattle.rules.specs.Choices.{Within, refinement_kind, parts_kind, kinded, choose_1, choose_2, choose_3, choose_4, choose_5, choose_6, choose_7, choose_8, choose_9, choose_10, choose_11, choose_12, token_choice, first_choice, ambient_choice, ambient_number, kind_choice}
 use Rattle.rules.proofs.Meaning.{apply_tt, one_inside, token_named, two_inside, valid}
 use Rattle.rules.proofs.Counting.{no_groups}
 use Rattle.rules.proofs.Rules.{twelve, place_in, choice_place}
@@ -265,3 +268,13 @@ module _ {file names refs rows : List ℕ} {named used many t : ℕ} (tables : T
       → ambient_number exclude terms fact t ≡ rule_number exclude terms fact t
   unfolding rule_number ambient_number triggers_of_term
   number_rules e exclude = sym (rw (nil_map (group_names exclude terms) (pattern_groups terms t) ∙ e))
+
+-- what is promised of the first rule that takes a fact
+pub promised : (s : TermTables) {name t : ℕ} {r : Ruled} → IsFact s name t → groups_at s.rows.now t ≡ 0
+    → r.choice ≡ ambient_choice (tables_terms s) s.rows.now (name_numbered s name) t
+    → r.rule ≡ suc (choice_place (tables_terms s) s.rows.now (name_numbered s name) t) → Within s.named s.many r.choice
+    → RuledAs ambient_choice maybe_add_ambient ambient_number s name t r
+promised s {name} fact bare choice rule within = record {
+  chosen = record { choice = choice; kind = ambient_kinded s.tables fact.1 (name_numbered s name) bare choice; within = within };
+  numbered = λ exclude. rule ∙ ambient_numbered s.tables fact.1 (name_numbered s name) bare refl exclude;
+}

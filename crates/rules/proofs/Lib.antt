@@ -1,4 +1,3 @@
-pub mod Looking
 pub mod Meaning
 pub mod Counting
 pub mod Rules

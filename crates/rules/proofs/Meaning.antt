@@ -5,7 +5,7 @@ use native.Mathlib.Omega.{arith}
 use mathlib.Core.Path.{◌≡◌, refl, sym, ap, ◌∙◌}
 use mathlib.Core.Logic.{⊎_elim}
 use mathlib.Core.Bool.{Bool, true, false, cond, ◌&&◌}
-use mathlib.Core.Option.{Option, none, some}
+use Rattle.std.specs.Prelude.{Option, None as none, Some as some}
 use mathlib.Core.List.{List, [], map}
 use lib.ListN.{length, get_or}
 use lib.Dec.{T, eqb, eqb→eq}
@@ -25,12 +25,7 @@ use Rattle.names.proofs.Coded.{code_exact}
 use Rattle.terms.specs.Rows.{row_kind, row_op, row_head, row_start, row_end, terms_of_words, op_of_code, make_node, node_of, has_head, Rows}
 use Rattle.terms.proofs.Laws.{equal}
 use Rattle.terms.proofs.Table.{term_node}
-use Rattle.rules.specs.declared.Argument.{Argument}
-use Rattle.rules.specs.declared.Argument.TheVariants as argument
-use Rattle.rules.specs.declared.Arguments.{Arguments}
-use Rattle.rules.specs.declared.Arguments.TheVariants as arguments
 use Rattle.rules.specs.Views.{Tables, terms_in, row_count, row_argument, is_call_at, is_head_at, is_op_at, call_one_at, call_two_at, op_two_at}
-use Rattle.rules.specs.Choices.{as_option}
 
 -- ---- tests
 
@@ -190,36 +185,33 @@ two_words l a e h = go (e - a) refl
       ne_eqb (suc (suc (suc d))) 2 (λ f. omega arith),
     )
 
--- two arguments that may be missing
-unfoldable pub as_pair : Arguments → Option (ℕ × ℕ)
-as_pair arguments.No = none
-as_pair (arguments.Are t u) = some (t, u)
-
 -- an argument by two tests is the one term of a list by the first
 one_when : (b e : Bool) (ts : List ℕ) (u : ℕ) → one ts ≡ cond e (some u) none
-    → as_option (cond (b && e) (argument.Is u) argument.No) ≡ (when b ts >>= one)
-unfolding as_option when
+    → (cond (b && e) (some u) none) ≡ (when b ts >>= one)
+unfolding when
 one_when true true ts u h = sym h
 one_when true false ts u h = sym h
 one_when false e ts u h = refl
 
 -- two arguments by two tests are the two terms of a list by the first
 two_when : (b e : Bool) (ts : List ℕ) (t u : ℕ) → two ts ≡ cond e (some (t, u)) none
-    → as_pair (cond (b && e) (arguments.Are t u) arguments.No) ≡ (when b ts >>= two)
-unfolding as_pair when
+    → (cond (b && e) (some (t, u)) none) ≡ (when b ts >>= two)
+unfolding when
 two_when true true ts t u h = sym h
 two_when true false ts t u h = sym h
 two_when false e ts t u h = refl
 
 -- an argument by two tests, where it is there
-one_is : (b e : Bool) {t u : ℕ} → cond (b && e) (argument.Is u) argument.No ≡ argument.Is t → (e ≡ true) × (u ≡ t)
+one_is : (b e : Bool) {t u : ℕ} → cond (b && e) (some u) none ≡ some t → (e ≡ true) × (u ≡ t)
 one_is true true h = (refl, cc)
 one_is true false h = let z : ◌≡◌ {A = ℕ} 0 1 = cc in absurd (omega arith)
 one_is false e h = let z : ◌≡◌ {A = ℕ} 0 1 = cc in absurd (omega arith)
 
 -- two arguments by two tests, where they are there
-two_are : (b e : Bool) {t u v w : ℕ} → cond (b && e) (arguments.Are t u) arguments.No ≡ arguments.Are v w → (e ≡ true) × (t ≡ v) × (u ≡ w)
-two_are true true h = (refl, cc, cc)
+two_are : (b e : Bool) {t u v w : ℕ} → cond {A = Option (ℕ × ℕ)} (b && e) (some (t, u)) none ≡ some (v, w) → (e ≡ true) × (t ≡ v) × (u ≡ w)
+two_are true true {t} {u} {v} {w} h =
+    let pair : ◌≡◌ {A = ℕ × ℕ} (t, u) (v, w) = cc in
+    (refl, ap (λ p. p.0) pair, ap (λ p. p.1) pair)
 two_are true false h = let z : ◌≡◌ {A = ℕ} 0 1 = cc in absurd (omega arith)
 two_are false e h = let z : ◌≡◌ {A = ℕ} 0 1 = cc in absurd (omega arith)
 
@@ -236,26 +228,18 @@ module _ {refs rows : List ℕ} {used many named t : ℕ} (table : Rows refs row
   argument_within i h = omega (arith, table.lower t (row_start rows t + i) l (omega arith) (omega arith))
 
   -- the argument of a call of one is a term of the table
-  pub one_within : (names : List ℕ) (code : ℕ) {r : Argument} {u : ℕ} → r ≡ call_one_at names refs rows used many t code → r ≡ argument.Is u → u < many
+  pub one_within : (names : List ℕ) (code : ℕ) {r : Option ℕ} {u : ℕ} → r ≡ call_one_at names refs rows used many t code → r ≡ some u → u < many
   unfolding call_one_at
   one_within names code e f =
       let (count, is) = one_is (is_call_at names rows t code) (eqb (row_count rows used many t) 1) (sym e ∙ f) in
       rw (← is) (argument_within 0 (omega (arith, eqb-true (row_count rows used many t) 1 count)))
 
   -- the arguments of a call of two are terms of the table
-  pub two_within : (names : List ℕ) (code : ℕ) {r : Arguments} {u v : ℕ} → r ≡ call_two_at names refs rows used many t code → r ≡ arguments.Are u v
+  pub two_within : (names : List ℕ) (code : ℕ) {r : Option (ℕ × ℕ)} {u v : ℕ} → r ≡ call_two_at names refs rows used many t code → r ≡ some (u, v)
       → (u < many) × (v < many)
   unfolding call_two_at
   two_within names code e f =
       let (count, is, and) = two_are (is_call_at names rows t code) (eqb (row_count rows used many t) 2) (sym e ∙ f) in
-      let many_enough = eqb-true (row_count rows used many t) 2 count in
-      (rw (← is) (argument_within 0 (omega arith)), rw (← and) (argument_within 1 (omega arith)))
-
-  -- the arguments of an `op` of two are terms of the table
-  pub op_within : (op : ℕ) {r : Arguments} {u v : ℕ} → r ≡ op_two_at refs rows used many t op → r ≡ arguments.Are u v → (u < many) × (v < many)
-  unfolding op_two_at
-  op_within op e f =
-      let (count, is, and) = two_are (is_op_at rows t op) (eqb (row_count rows used many t) 2) (sym e ∙ f) in
       let many_enough = eqb-true (row_count rows used many t) 2 count in
       (rw (← is) (argument_within 0 (omega arith)), rw (← and) (argument_within 1 (omega arith)))
 
@@ -265,31 +249,6 @@ module _ {refs rows : List ℕ} {used many named t : ℕ} (table : Rows refs row
 pub call_headed : (kind : ℕ) → kind ≡ 2 → has_head kind ≡ true
 unfolding has_head
 call_headed kind e = rw e
-
--- a word of the rules and its number
-pub record Word (word : Op) (op : ℕ) : Type 0 where
-  pub small : op_number word < 4
-  pub is : op_number word ≡ op
-
--- true
-pub true_word : Word TrueOp 0
-unfolding op_number
-true_word = record { small = omega arith; is = refl }
-
--- iff
-pub iff_word : Word Iff 1
-unfolding op_number
-iff_word = record { small = omega arith; is = refl }
-
--- eq
-pub eq_word : Word Eq 2
-unfolding op_number
-eq_word = record { small = omega arith; is = refl }
-
--- and
-pub and_word : Word And 3
-unfolding op_number
-and_word = record { small = omega arith; is = refl }
 
 -- a node that is no `free` and no call is no token
 other_node : (kind : ℕ) (op : Op) (name : Name) (ws : List ℕ) (g : ℕ) → (kind ≡ 0 → ⊥) → (kind ≡ 2 → ⊥)
@@ -303,29 +262,6 @@ other_node (suc (suc (suc (suc zero)))) op name ws g e f = refl
 other_node (suc (suc (suc (suc (suc zero))))) op name ws g e f = refl
 other_node (suc (suc (suc (suc (suc (suc zero)))))) op name ws g e f = refl
 other_node (suc (suc (suc (suc (suc (suc (suc n))))))) op name ws g e f = refl
-
--- an argument that is there
-option_is : {u : ℕ} (r : Argument) → as_option r ≡ some u → r ≡ argument.Is u
-unfolding as_option
-option_is argument.No e = cc
-option_is (argument.Is v) e = cc
-
--- two arguments that are there
-pair_is : {u v : ℕ} (r : Arguments) → as_pair r ≡ some (u, v) → r ≡ arguments.Are u v
-unfolding as_pair
-pair_is arguments.No e = cc
-pair_is {u} {v} (arguments.Are a b) e =
-    let z : ◌≡◌ {A = ℕ × ℕ} (a, b) (u, v) = cc in
-    let (x, y) : (a ≡ u) × (b ≡ v) = (ap (λ p. p.0) z, ap (λ p. p.1) z) in
-    cc
-
--- no argument is none
-pub never_is : {A : Type 0} {u : ℕ} → argument.No ≡ argument.Is u → A
-never_is e = let z : ◌≡◌ {A = ℕ} 0 1 = cc in absurd (omega arith)
-
--- the number of an argument
-pub is_within : {u v many : ℕ} → argument.Is v ≡ argument.Is u → v < many → u < many
-is_within {u} {v} e h = let z : v ≡ u = cc in omega arith
 
 module _ {file names refs rows : List ℕ} {named used many t : ℕ} (tables : Tables file names refs rows named used many) (l : t < many) where
   -- the line of a term is that of its row
@@ -373,7 +309,7 @@ module _ {file names refs rows : List ℕ} {named used many t : ℕ} (tables : T
       and_true false = refl
 
   -- the argument of a call of a known name with one
-  pub call_one_law : {k : String} {code : ℕ} → Known k code → as_option (call_one_at names refs rows used many t code)
+  pub call_one_law : {k : String} {code : ℕ} → Known k code → (call_one_at names refs rows used many t code)
       ≡ call_one k (term (terms_in file names refs rows used many) t).node
   unfolding call_one_at call_one row_argument row_count
   call_one_law {k} {code} known =
@@ -381,7 +317,7 @@ module _ {file names refs rows : List ℕ} {named used many t : ℕ} (tables : T
       ∙ ap (λ ts. ts >>= one) (sym (call_law known))
 
   -- the arguments of a call of a known name with two
-  pub call_two_law : {k : String} {code : ℕ} → Known k code → as_pair (call_two_at names refs rows used many t code)
+  pub call_two_law : {k : String} {code : ℕ} → Known k code → (call_two_at names refs rows used many t code)
       ≡ call_two k (term (terms_in file names refs rows used many) t).node
   unfolding call_two_at call_two row_argument row_count
   call_two_law {k} {code} known =
@@ -399,81 +335,87 @@ module _ {file names refs rows : List ℕ} {named used many t : ℕ} (tables : T
       (op_code (row_op rows t) (op_number word) h)
 
   -- the arguments of an `op` of a known word with two
-  pub op_two_law : (word : Op) → op_number word < 4 → as_pair (op_two_at refs rows used many t (op_number word))
+  pub op_two_law : (word : Op) → op_number word < 4 → (op_two_at refs rows used many t (op_number word))
       ≡ (op_args word (term (terms_in file names refs rows used many) t).node >>= two)
   unfolding op_two_at row_argument row_count
   op_two_law word h =
       two_when (is_op_at rows t (op_number word)) _ _ _ _ (two_words refs (row_start rows t) (row_end rows used many t) (row_fits tables.term_table l))
       ∙ ap (λ ts. ts >>= two) (sym (op_law word h))
 
+  -- ---- the same for each word and each name that the rules know
+
+  -- the two arguments of an `iff`
+  pub iff_two_law : (op_args Iff (term (terms_in file names refs rows used many) t).node >>= two) ≡ op_two_at refs rows used many t 1
+  unfolding op_number
+  iff_two_law = sym (op_two_law Iff (omega arith))
+
+  -- the two arguments of an `eq`
+  pub eq_two_law : (op_args Eq (term (terms_in file names refs rows used many) t).node >>= two) ≡ op_two_at refs rows used many t 2
+  unfolding op_number
+  eq_two_law = sym (op_two_law Eq (omega arith))
+
+  -- the arguments of a `true`
+  pub true_law : op_args TrueOp (term (terms_in file names refs rows used many) t).node
+      ≡ when (is_op_at rows t 0) (terms_of_words (part refs (row_start rows t) (row_end rows used many t)))
+  unfolding op_number
+  true_law = op_law TrueOp (omega arith)
+
+  -- the arguments of an `and`
+  pub and_law : op_args And (term (terms_in file names refs rows used many) t).node
+      ≡ when (is_op_at rows t 3) (terms_of_words (part refs (row_start rows t) (row_end rows used many t)))
+  unfolding op_number
+  and_law = op_law And (omega arith)
+
+  -- the argument of Valid
+  pub valid_law : call_one "Valid" (term (terms_in file names refs rows used many) t).node ≡ call_one_at names refs rows used many t 6
+  valid_law = sym (call_one_law valid)
+
+  -- the argument of IsTotFun
+  pub is_tot_fun_law : call_one "IsTotFun" (term (terms_in file names refs rows used many) t).node ≡ call_one_at names refs rows used many t 22
+  is_tot_fun_law = sym (call_one_law is_tot_fun)
+
+  -- the argument of is-Tm_arrow
+  pub is_tm_arrow_law : call_one "is-Tm_arrow" (term (terms_in file names refs rows used many) t).node ≡ call_one_at names refs rows used many t 23
+  is_tm_arrow_law = sym (call_one_law is_tm_arrow)
+
+  -- the argument of Term_constr_id
+  pub term_constr_id_law : call_one "Term_constr_id" (term (terms_in file names refs rows used many) t).node ≡ call_one_at names refs rows used many t 24
+  term_constr_id_law = sym (call_one_law term_constr_id)
+
+  -- the two arguments of HasType
+  pub has_type_law : call_two "HasType" (term (terms_in file names refs rows used many) t).node ≡ call_two_at names refs rows used many t 3
+  has_type_law = sym (call_two_law has_type)
+
+  -- the two arguments of ApplyTT
+  pub apply_tt_law : call_two "ApplyTT" (term (terms_in file names refs rows used many) t).node ≡ call_two_at names refs rows used many t 7
+  apply_tt_law = sym (call_two_law apply_tt)
+
+  -- the two arguments of Prims.squash
+  pub squash_law : call_two "Prims.squash" (term (terms_in file names refs rows used many) t).node ≡ call_two_at names refs rows used many t 20
+  squash_law = sym (call_two_law squash)
+
+  -- the two arguments of Prims.hasEq
+  pub prims_has_eq_law : call_two "Prims.hasEq" (term (terms_in file names refs rows used many) t).node ≡ call_two_at names refs rows used many t 21
+  prims_has_eq_law = sym (call_two_law prims_has_eq)
+
+  -- whether a head is __uu__PartialApp
+  pub partial_app_law : holds (same (bytes "__uu__PartialApp")) (head (term (terms_in file names refs rows used many) t).node) ≡ is_head_at names rows t 25
+  partial_app_law = sym (is_head_law partial_app)
+
+  -- whether a term is a squash
+  pub is_squash_law : holds (λ ts. true) (call_args "Prims.squash" (term (terms_in file names refs rows used many) t).node) ≡ is_call_at names rows t 20
+  is_squash_law = sym (is_call_law squash)
+
   -- the argument of a call of a known name with one is a term of the table
   pub one_inside : {k : String} {code u : ℕ} → Known k code → call_one k (term (terms_in file names refs rows used many) t).node ≡ some u → u < many
-  one_inside {code} known e = one_within tables.term_table l names code refl (option_is _ (call_one_law known ∙ e))
+  one_inside {code} known e = one_within tables.term_table l names code refl (call_one_law known ∙ e)
 
   -- the arguments of a call of a known name with two are terms of the table
   pub two_inside : {k : String} {code u v : ℕ} → Known k code → call_two k (term (terms_in file names refs rows used many) t).node ≡ some (u, v)
       → (u < many) × (v < many)
-  two_inside {code} known e = two_within tables.term_table l names code refl (pair_is _ (call_two_law known ∙ e))
+  two_inside {code} known e = two_within tables.term_table l names code refl (call_two_law known ∙ e)
 
-  -- ---- by what a function found
-
-  -- no argument of a call of one
-  pub one_no : {k : String} {code : ℕ} → Known k code → {r : Argument} → r ≡ call_one_at names refs rows used many t code → r ≡ argument.No
-      → call_one k (term (terms_in file names refs rows used many) t).node ≡ none
-  unfolding as_option
-  one_no known e f = sym (call_one_law known) ∙ ap as_option (sym e ∙ f)
-
-  -- the argument of a call of one
-  pub one_found : {k : String} {code : ℕ} → Known k code → {r : Argument} {u : ℕ} → r ≡ call_one_at names refs rows used many t code → r ≡ argument.Is u
-      → call_one k (term (terms_in file names refs rows used many) t).node ≡ some u
-  unfolding as_option
-  one_found known e f = sym (call_one_law known) ∙ ap as_option (sym e ∙ f)
-
-  -- no arguments of a call of two
-  pub two_no : {k : String} {code : ℕ} → Known k code → {r : Arguments} → r ≡ call_two_at names refs rows used many t code → r ≡ arguments.No
-      → call_two k (term (terms_in file names refs rows used many) t).node ≡ none
-  unfolding as_pair
-  two_no known e f = sym (call_two_law known) ∙ ap as_pair (sym e ∙ f)
-
-  -- the arguments of a call of two
-  pub two_found : {k : String} {code : ℕ} → Known k code → {r : Arguments} {u v : ℕ} → r ≡ call_two_at names refs rows used many t code → r ≡ arguments.Are u v
-      → call_two k (term (terms_in file names refs rows used many) t).node ≡ some (u, v)
-  unfolding as_pair
-  two_found known e f = sym (call_two_law known) ∙ ap as_pair (sym e ∙ f)
-
-  -- no arguments of an `op` of two
-  pub op_two_no : {word : Op} {op : ℕ} → Word word op → {r : Arguments} → r ≡ op_two_at refs rows used many t op → r ≡ arguments.No
-      → (op_args word (term (terms_in file names refs rows used many) t).node >>= two) ≡ none
-  unfolding as_pair
-  op_two_no {word} w e f = sym (op_two_law word w.small) ∙ ap (λ o. as_pair (op_two_at refs rows used many t o)) w.is ∙ ap as_pair (sym e ∙ f)
-
-  -- the arguments of an `op` of two
-  pub op_two_found : {word : Op} {op : ℕ} → Word word op → {r : Arguments} {u v : ℕ} → r ≡ op_two_at refs rows used many t op → r ≡ arguments.Are u v
-      → (op_args word (term (terms_in file names refs rows used many) t).node >>= two) ≡ some (u, v)
-  unfolding as_pair
-  op_two_found {word} w e f = sym (op_two_law word w.small) ∙ ap (λ o. as_pair (op_two_at refs rows used many t o)) w.is ∙ ap as_pair (sym e ∙ f)
-
-  -- no `op` of the word
-  pub op_no : {word : Op} {op : ℕ} → Word word op → is_op_at rows t op ≡ false → op_args word (term (terms_in file names refs rows used many) t).node ≡ none
-  unfolding when
-  op_no {word} w e = op_law word w.small ∙ rw (w.is, e)
-
-  -- an `op` of the word
-  pub op_found : {word : Op} {op : ℕ} → Word word op → is_op_at rows t op ≡ true
-      → op_args word (term (terms_in file names refs rows used many) t).node ≡ some (terms_of_words (part refs (row_start rows t) (row_end rows used many t)))
-  unfolding when
-  op_found {word} w e = op_law word w.small ∙ rw (w.is, e)
-
-  -- a term without a head
-  pub head_no : has_head (row_kind rows t) ≡ false → head (term (terms_in file names refs rows used many) t).node ≡ none
-  unfolding when
-  head_no e = rw (head_law, e)
-
-  -- a term with a head
-  pub head_found : {n : ℕ} → has_head (row_kind rows t) ≡ true → n ≡ row_head rows t
-      → head (term (terms_in file names refs rows used many) t).node ≡ some (name_of file names n)
-  unfolding when
-  head_found e f = rw (head_law, e, f)
+  -- ---- heads
 
   -- a head is the number of a name
   pub head_within : {n : ℕ} → has_head (row_kind rows t) ≡ true → n ≡ row_head rows t → n < named

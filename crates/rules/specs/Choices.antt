@@ -1,6 +1,5 @@
 -- The choice among the rules: what each makes of a fact, and which is taken.
-use Rattle.std.specs.Prelude.{ℕ, suc, ◌<◌, ◌≡◌, true, false, cond, List, [], ◌∷◌}
-use Rattle.std.proofs.Math.Option.{Option, none, some, get_or}
+use Rattle.std.specs.Prelude.{ℕ, suc, ◌<◌, ◌≡◌, true, false, cond, List, [], ◌∷◌, IfSome, Option, Some as some, unwrap_or as get_or}
 use Rattle.model.specs.Lists.{find_index, collect, holds, is_nil, or_else, when, ◌>>=◌}
 use Rattle.model.specs.Names.{Name, bytes, same, starts_with}
 use Rattle.model.specs.Terms.{Term, term, references}
@@ -8,13 +7,8 @@ use Rattle.model.specs.Summaries.{Kinded, sum_drop, sum_ambient, sum_triggers, a
 use Rattle.model.specs.declared.Op.TheVariants.{TrueOp, Iff, Eq, And}
 use Rattle.names.specs.Table.{name_of}
 use Rattle.terms.specs.Rows.{row_head}
-use Rattle.rules.specs.declared.Argument.{Argument}
-use Rattle.rules.specs.declared.Argument.TheVariants as argument
 use Rattle.rules.specs.declared.Choice.{Choice}
 use Rattle.rules.specs.declared.Choice.TheVariants as choice
-use Rattle.rules.specs.declared.Ruled.{Ruled}
-use Rattle.rules.specs.declared.Tried.{Tried}
-use Rattle.rules.specs.declared.Tried.TheVariants as tried
 use Rattle.rules.specs.Views.{Tables, terms_in}
 
 module _ (exclude : List Name) (terms : List Term) where
@@ -161,19 +155,14 @@ Within named many (choice.Parts t) = t < many
 Within named many choice.Drop = Unit {0}
 Within named many choice.Ambient = Unit {0}
 
--- what a rule answers: that it does not hold, or its choice, of numbers of the tables
-pub data Tries (chosen : Option Choice) (named many : ℕ) : Tried → Type 0 where
-  holds_not : chosen ≡ none → Tries chosen named many tried.No
-  chooses : {c : Choice} → chosen ≡ some c → Within named many c → Tries chosen named many (tried.Yes c)
+-- what a rule answers: its choice, of numbers of the tables, or none where it does not hold
+pub record Tries (chosen : Option Choice) (named many : ℕ) (r : Option Choice) : Type 0 where
+  pub choice : r ≡ chosen
+  pub within : IfSome r (Within named many)
 
 -- what the rules ask: the name and the term of a fact are of the tables
 abbrev pub OfTables : List ℕ → List ℕ → List ℕ → List ℕ → ℕ → ℕ → ℕ → ℕ → ℕ → Type 0
 OfTables file names refs rows named used many name t = Tables file names refs rows named used many × (name < named) × (t < many)
-
--- a rule answers what it chooses for the fact
-abbrev pub Rule : (List Term → List ℕ → Name → ℕ → Option Choice) → List ℕ → List ℕ → List ℕ → List ℕ → ℕ → ℕ → ℕ → ℕ → ℕ → Tried → Type 0
-Rule choose file names refs rows named used many name t r =
-    Tries (choose (terms_in file names refs rows used many) rows (name_of file names name) t) named many r
 
 -- a choice among the rules: the first that holds, whatever names are excluded it makes of the fact what `model` does, and its
 -- numbers are of the tables
@@ -183,16 +172,3 @@ pub record Chosen (choose : List Term → List ℕ → Name → ℕ → Choice) 
   pub kind : (exclude : List Name) → kinded exclude (terms_in file names refs rows used many) (name_of file names) r
       ≡ make exclude (terms_in file names refs rows used many) (name_of file names name) t
   pub within : Within named many r
-
--- such a choice with the number of its rule, which is that of `model` whatever names are excluded
-pub record RuledAs (choose : List Term → List ℕ → Name → ℕ → Choice) (make : List Name → List Term → Name → ℕ → Kinded)
-    (number : List Name → List Term → Name → ℕ → ℕ) (file names refs rows : List ℕ) (named used many name t : ℕ) (r : Ruled)
-    : Type 0 where
-  pub chosen : Chosen choose make file names refs rows named used many name t r.choice
-  pub numbered : (exclude : List Name)
-      → r.rule ≡ number exclude (terms_in file names refs rows used many) (name_of file names name) t
-
--- an argument that may be missing
-unfoldable pub as_option : Argument → Option ℕ
-as_option argument.No = none
-as_option (argument.Is t) = some t

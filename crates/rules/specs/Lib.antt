@@ -1,2 +1,4 @@
 pub mod Views
+pub mod Once
 pub mod Choices
+pub mod Read

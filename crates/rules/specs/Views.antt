@@ -1,12 +1,8 @@
 -- What the twelve rules see of a row: a call of a known name, an `op` of a word, its arguments. Words of the tables.
-use Rattle.std.specs.Prelude.{ℕ, ◌+◌, ◌-◌, Bool, cond, ◌&&◌, List, get_or, eqb}
+use Rattle.std.specs.Prelude.{ℕ, ◌+◌, ◌-◌, Bool, cond, ◌&&◌, List, get_or, eqb, Option, None as none, Some as some}
 use Rattle.names.specs.Table.{Table, name_code, name_of}
 use Rattle.model.specs.Terms.{Term}
 use Rattle.terms.specs.Rows.{call_kind, op_kind, term_of, row_kind, row_op, row_head, row_start, row_end, has_head, terms_of, Rows}
-use Rattle.rules.specs.declared.Argument.{Argument}
-use Rattle.rules.specs.declared.Argument.TheVariants as argument
-use Rattle.rules.specs.declared.Arguments.{Arguments}
-use Rattle.rules.specs.declared.Arguments.TheVariants as arguments
 
 -- a name table of the file, and a term table whose heads are its names
 pub record Tables (file names refs rows : List ℕ) (named used many : ℕ) : Type 0 where
@@ -38,20 +34,20 @@ unfoldable pub is_op_at : List ℕ → ℕ → ℕ → Bool
 is_op_at rows t op = eqb (row_kind rows t) op_kind && eqb (row_op rows t) op
 
 -- the argument of such a call of one
-unfoldable pub call_one_at : List ℕ → List ℕ → List ℕ → ℕ → ℕ → ℕ → ℕ → Argument
+unfoldable pub call_one_at : List ℕ → List ℕ → List ℕ → ℕ → ℕ → ℕ → ℕ → Option ℕ
 call_one_at names refs rows used many t code =
-    cond (is_call_at names rows t code && eqb (row_count rows used many t) 1) (argument.Is (row_argument refs rows t 0)) argument.No
+    cond (is_call_at names rows t code && eqb (row_count rows used many t) 1) (some (row_argument refs rows t 0)) none
 
 -- the arguments of such a call of two
-unfoldable pub call_two_at : List ℕ → List ℕ → List ℕ → ℕ → ℕ → ℕ → ℕ → Arguments
+unfoldable pub call_two_at : List ℕ → List ℕ → List ℕ → ℕ → ℕ → ℕ → ℕ → Option (ℕ × ℕ)
 call_two_at names refs rows used many t code =
     cond (is_call_at names rows t code && eqb (row_count rows used many t) 2)
-    (arguments.Are (row_argument refs rows t 0) (row_argument refs rows t 1))
-    arguments.No
+    (some (row_argument refs rows t 0, row_argument refs rows t 1))
+    none
 
 -- the arguments of such an `op` of two
-unfoldable pub op_two_at : List ℕ → List ℕ → ℕ → ℕ → ℕ → ℕ → Arguments
+unfoldable pub op_two_at : List ℕ → List ℕ → ℕ → ℕ → ℕ → ℕ → Option (ℕ × ℕ)
 op_two_at refs rows used many t op =
     cond (is_op_at rows t op && eqb (row_count rows used many t) 2)
-    (arguments.Are (row_argument refs rows t 0) (row_argument refs rows t 1))
-    arguments.No
+    (some (row_argument refs rows t 0, row_argument refs rows t 1))
+    none

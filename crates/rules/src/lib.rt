@@ -1,14 +1,16 @@
 #![tactic(auto)]
 
-ghost use Rattle.std.specs.Prelude.{ℕ, ◌+◌, ◌≤◌, ◌<◌, ◌≡◌, List, T, length};
+ghost use Rattle.std.specs.Prelude.{ℕ, ◌<◌, ◌≡◌, List, IfSome};
 ghost use Rattle.model.specs.Names.{Name, starts_with};
-ghost use Rattle.model.specs.Reading.{most_names, most_terms};
-ghost use Rattle.model.specs.Outcome.{working_words};
 ghost use Rattle.model.specs.Summaries.{is_ambient_refinement, ambient_refinement_payload, has_eq, maybe_add_ambient, summarize_kind, rule_number};
-ghost use Rattle.names.specs.Table.{Table, name_of};
-ghost use Rattle.terms.specs.Rows.{row_kind, row_head, row_start, row_end, has_head, groups_at, Rows};
-ghost use Rattle.rules.specs.Views.{Tables, terms_in, is_call_at, is_head_at, is_op_at, call_one_at, call_two_at, op_two_at, row_count, row_argument};
-ghost use Rattle.rules.specs.Choices.{Rule, OfTables, Chosen, RuledAs, choose_1, choose_2, choose_3, choose_4, choose_5, choose_6, choose_7, choose_8, choose_9, choose_10, choose_11, token_choice, ambient_choice, ambient_number, kind_choice, Within, as_option};
+ghost use Rattle.terms.specs.Rows.{groups_at};
+ghost use Rattle.rules.specs.Read.{terms, name_numbered, IsFact, Rule, ChosenFor, RuledAs};
+ghost use Rattle.rules.specs.Views.{is_call_at, is_head_at, is_op_at, call_one_at, call_two_at, op_two_at, row_count, row_argument};
+ghost use Rattle.rules.specs.Choices.{choose_1, choose_2, choose_3, choose_4, choose_5, choose_6, choose_7, choose_8, choose_9, choose_10, choose_11, token_choice, ambient_choice, ambient_number, kind_choice, Within};
+
+pub mod tables;
+
+use tables::TermTables;
 
 // Where the disjuncts of a fact's trigger names come from.
 #[derive(Clone, Copy)]
@@ -34,34 +36,14 @@ pub enum Choice {
 }
 
 // What becomes of a fact: the number of the rule that says it, 0 where its own triggers do, and the choice.
+// The number is 0 and no `None`, as `rule_number` of `model` has it and the program prints it.
 #[derive(Clone, Copy)]
 struct Ruled {
     rule: usize,
     choice: Choice,
 }
 
-// What a rule comes to: it does not hold, or its choice.
-#[derive(Clone, Copy)]
-enum Tried {
-    No,
-    Yes(Choice),
-}
-
-// An argument, where there is one.
-#[derive(Clone, Copy)]
-enum Argument {
-    No,
-    Is(usize),
-}
-
-// Two arguments, where there are two.
-#[derive(Clone, Copy)]
-enum Arguments {
-    No,
-    Are(usize, usize),
-}
-
-// Head codes of the names that the rules know.
+// Head codes of the names that the rules know: numbers, as the words of the name table hold them.
 const HAS_TYPE: usize = 3;
 
 const VALID: usize = 6;
@@ -80,7 +62,7 @@ const TERM_CONSTR_ID: usize = 24;
 
 const PARTIAL_APP: usize = 25;
 
-// Numbers of the op words.
+// Numbers of the op words, as the words of the term table hold them.
 const TRUE: usize = 0;
 
 const IFF: usize = 1;
@@ -89,685 +71,434 @@ const EQ: usize = 2;
 
 const AND: usize = 3;
 
-// How many references a row has.
-fn count(rows: &[u32], used: usize, many: usize, t: usize) -> usize
-    requires { (working_words ≤ length rows.now) × (t < many) × (many ≤ most_terms)
-        × (row_start rows.now t ≤ row_end rows.now used many t) }
-    ensures { result ≡ row_count rows.now used many t }
-{
-    terms::end(rows, used, many, t) - terms::start(rows, t)
-}
+impl TermTables<'_> {
+    // How many references a row has.
+    #[tactic(auto, unfolding(crate::specs::Views::row_count))]
+    fn count(&self, t: usize) -> usize
+        requires { t < self.now.many }
+        ensures { result ≡ row_count self.now.rows.now self.now.used self.now.many t }
+    {
+        terms::end(self.rows, self.used, self.many, t) - terms::start(self.rows, t)
+    }
 
-// The i-th term that a row names.
-fn nth(refs: &[u32], rows: &[u32], t: usize, i: usize) -> usize
-    requires { (working_words ≤ length rows.now) × (t < most_terms) × (row_start rows.now t + i < length refs.now)
-        × (i ≤ 1) }
-    ensures { result ≡ row_argument refs.now rows.now t i }
-{
-    let a = terms::start(rows, t);
-    terms::reference(refs, a + i)
-}
+    // The i-th term that a row names.
+    #[tactic(auto, unfolding(crate::specs::Views::row_count, crate::specs::Views::row_argument))]
+    fn nth(&self, t: usize, i: usize) -> usize
+        requires { (t < self.now.many) × (i < row_count self.now.rows.now self.now.used self.now.many t) }
+        ensures argument { result ≡ row_argument self.now.refs.now self.now.rows.now t i }
+        ensures within { result < self.now.many }
+    {
+        let a = terms::start(self.rows, t);
+        terms::reference(self.refs, a + i)
+    }
 
-// Whether a row is a call of the name with this head code.
-fn is_call(names: &[u32], rows: &[u32], t: usize, code: usize) -> bool
-    requires { (working_words ≤ length names.now) × (working_words ≤ length rows.now) × (t < most_terms)
-        × (T (has_head (row_kind rows.now t)) → row_head rows.now t < most_names) }
-    ensures { result ≡ is_call_at names.now rows.now t code }
-{
-    if terms::kind(rows, t) != terms::CALL {
-        return false;
+    // Whether a row is a call of the name with this head code.
+    #[tactic(auto, unfolding(crate::specs::Views::is_call_at, terms::specs::Rows::has_head))]
+    fn is_call(&self, t: usize, code: usize) -> bool
+        requires { t < self.now.many }
+        ensures { result ≡ is_call_at self.now.names.now self.now.rows.now t code }
+    {
+        if terms::kind(self.rows, t) != terms::CALL {
+            return false;
+        }
+        let n = terms::head(self.rows, t);
+        names::code_at(self.names, n) == code
     }
-    let n = terms::head(rows, t);
-    names::code_at(names, n) == code
-}
 
-// Whether a row is a `free` or a call of the name with this head code.
-fn is_head(names: &[u32], rows: &[u32], t: usize, code: usize) -> bool
-    requires { (working_words ≤ length names.now) × (working_words ≤ length rows.now) × (t < most_terms)
-        × (T (has_head (row_kind rows.now t)) → row_head rows.now t < most_names) }
-    ensures { result ≡ is_head_at names.now rows.now t code }
-{
-    if !terms::has_head(rows, t) {
-        return false;
+    // Whether a row is a `free` or a call of the name with this head code.
+    #[tactic(auto, unfolding(crate::specs::Views::is_head_at))]
+    fn is_head(&self, t: usize, code: usize) -> bool
+        requires { t < self.now.many }
+        ensures { result ≡ is_head_at self.now.names.now self.now.rows.now t code }
+    {
+        if !terms::has_head(self.rows, t) {
+            return false;
+        }
+        let n = terms::head(self.rows, t);
+        names::code_at(self.names, n) == code
     }
-    let n = terms::head(rows, t);
-    names::code_at(names, n) == code
-}
 
-// Whether a row is an `op` of the word with this number.
-fn is_op(rows: &[u32], t: usize, op: usize) -> bool
-    requires { (working_words ≤ length rows.now) × (t < most_terms) }
-    ensures { result ≡ is_op_at rows.now t op }
-{
-    if terms::kind(rows, t) != terms::OP {
-        return false;
+    // Whether a row is an `op` of the word with this number.
+    #[tactic(auto, unfolding(crate::specs::Views::is_op_at))]
+    fn is_op(&self, t: usize, op: usize) -> bool
+        requires { t < self.now.many }
+        ensures { result ≡ is_op_at self.now.rows.now t op }
+    {
+        if terms::kind(self.rows, t) != terms::OP {
+            return false;
+        }
+        terms::op(self.rows, t) == op
     }
-    terms::op(rows, t) == op
-}
 
-// The argument of a call of the name with this head code, of one.
-fn call_one(
-    names: &[u32],
-    refs: &[u32],
-    rows: &[u32],
-    named: usize,
-    used: usize,
-    many: usize,
-    t: usize,
-    code: usize,
-) -> Argument
-    requires { Rows refs.now rows.now used many named × (working_words ≤ length names.now) × (t < many) }
-    ensures { result ≡ call_one_at names.now refs.now rows.now used many t code }
-{
-    if !is_call(names, rows, t, code) {
-        return Argument::No;
+    // The argument of a call of the name with this head code, of one. Apart from `call_two` and `op_two`: as one they would
+    // take the test and the count as parameters and answer a list.
+    #[tactic(auto, unfolding(crate::specs::Views::call_one_at))]
+    fn call_one(&self, t: usize, code: usize) -> Option<usize>
+        requires { t < self.now.many }
+        ensures found { result ≡ call_one_at self.now.names.now self.now.refs.now self.now.rows.now self.now.used self.now.many t code }
+        ensures within { IfSome result (λ u. u < self.now.many) }
+    {
+        if !self.is_call(t, code) {
+            return None;
+        }
+        if self.count(t) != 1 {
+            return None;
+        }
+        Some(self.nth(t, 0))
     }
-    if count(rows, used, many, t) != 1 {
-        return Argument::No;
-    }
-    Argument::Is(nth(refs, rows, t, 0))
-}
 
-// The arguments of a call of the name with this head code, of two.
-fn call_two(
-    names: &[u32],
-    refs: &[u32],
-    rows: &[u32],
-    named: usize,
-    used: usize,
-    many: usize,
-    t: usize,
-    code: usize,
-) -> Arguments
-    requires { Rows refs.now rows.now used many named × (working_words ≤ length names.now) × (t < many) }
-    ensures { result ≡ call_two_at names.now refs.now rows.now used many t code }
-{
-    if !is_call(names, rows, t, code) {
-        return Arguments::No;
+    // The arguments of a call of the name with this head code, of two.
+    #[tactic(auto, unfolding(crate::specs::Views::call_two_at))]
+    fn call_two(&self, t: usize, code: usize) -> Option<(usize, usize)>
+        requires { t < self.now.many }
+        ensures found { result ≡ call_two_at self.now.names.now self.now.refs.now self.now.rows.now self.now.used self.now.many t code }
+        ensures within { IfSome result (λ p. (p.0 < self.now.many) × (p.1 < self.now.many)) }
+    {
+        if !self.is_call(t, code) {
+            return None;
+        }
+        let size = self.count(t);
+        if size != 2 {
+            return None;
+        }
+        let first = self.nth(t, 0);
+        let second = self.nth(t, 1);
+        Some((first, second))
     }
-    let size = count(rows, used, many, t);
-    if size != 2 {
-        return Arguments::No;
-    }
-    let first = nth(refs, rows, t, 0);
-    let second = nth(refs, rows, t, 1);
-    Arguments::Are(first, second)
-}
 
-// The arguments of an `op` of the word with this number, of two.
-fn op_two(
-    refs: &[u32],
-    rows: &[u32],
-    named: usize,
-    used: usize,
-    many: usize,
-    t: usize,
-    op: usize,
-) -> Arguments
-    requires { Rows refs.now rows.now used many named × (t < many) }
-    ensures { result ≡ op_two_at refs.now rows.now used many t op }
-{
-    if !is_op(rows, t, op) {
-        return Arguments::No;
+    // The arguments of an `op` of the word with this number, of two.
+    #[tactic(auto, unfolding(crate::specs::Views::op_two_at))]
+    fn op_two(&self, t: usize, op: usize) -> Option<(usize, usize)>
+        requires { t < self.now.many }
+        ensures found { result ≡ op_two_at self.now.refs.now self.now.rows.now self.now.used self.now.many t op }
+        ensures within { IfSome result (λ p. (p.0 < self.now.many) × (p.1 < self.now.many)) }
+    {
+        if !self.is_op(t, op) {
+            return None;
+        }
+        if self.count(t) != 2 {
+            return None;
+        }
+        let first = self.nth(t, 0);
+        let second = self.nth(t, 1);
+        Some((first, second))
     }
-    if count(rows, used, many, t) != 2 {
-        return Arguments::No;
-    }
-    let first = nth(refs, rows, t, 0);
-    let second = nth(refs, rows, t, 1);
-    Arguments::Are(first, second)
-}
 
-// Whether the name of a number begins with a prefix.
-fn name_starts(file: &[u8], names: &[u32], named: usize, n: usize, prefix: &[u8]) -> bool
-    requires { Table file.now names.now named × (n < named) }
-    ensures { result ≡ starts_with (name_of file.now names.now n) prefix.now }
-{
-    let a = words::at(names, n);
-    let e = a + words::at(names, names::LENGTH + n);
-    text::starts_with(file, a, e, prefix)
-}
-
-// `is_ambient_refinement`: a squash, or a refinement by its name.
-fn is_ambient_refinement(
-    file: &[u8],
-    names: &[u32],
-    refs: &[u32],
-    rows: &[u32],
-    named: usize,
-    used: usize,
-    many: usize,
-    ty: usize,
-) -> bool
-    requires { Tables file.now names.now refs.now rows.now named used many × (ty < many) }
-    ensures { result ≡ is_ambient_refinement (terms_in file.now names.now refs.now
-        rows.now used many) ty }
-{
-    if is_call(names, rows, ty, SQUASH) {
-        return true;
+    // Whether the name of a number begins with a prefix.
+    #[tactic(auto, unfolding(names::specs::Table::name_of))]
+    fn name_starts(&self, n: usize, prefix: &[u8]) -> bool
+        requires { n < self.now.named }
+        ensures { result ≡ starts_with (name_numbered self.now n) prefix.now }
+    {
+        let a = words::at(self.names, n);
+        let e = a + words::at(self.names, names::LENGTH + n);
+        text::starts_with(self.file, a, e, prefix)
     }
-    if !terms::has_head(rows, ty) {
-        return false;
-    }
-    let n = terms::head(rows, ty);
-    name_starts(file, names, named, n, b"Tm_refine_")
-}
 
-// `ambient_refinement_payload`: the second argument of a squash of two, else the type.
-fn ambient_refinement_payload(
-    file: &[u8],
-    names: &[u32],
-    refs: &[u32],
-    rows: &[u32],
-    named: usize,
-    used: usize,
-    many: usize,
-    ty: usize,
-) -> usize
-    requires { Tables file.now names.now refs.now rows.now named used many × (ty < many) }
-    ensures payload { result ≡ ambient_refinement_payload
-        (terms_in file.now names.now refs.now rows.now used many) ty }
-    ensures within { result < many }
-{
-    let Arguments::Are(_, payload) = call_two(names, refs, rows, named, used, many, ty, SQUASH)
-    else {
-        return ty;
-    };
-    payload
-}
-
-// The token of a partial application: the name of a `free` or of a call of none.
-fn token(
-    file: &[u8],
-    names: &[u32],
-    refs: &[u32],
-    rows: &[u32],
-    named: usize,
-    used: usize,
-    many: usize,
-    t: usize,
-) -> Choice
-    requires { Tables file.now names.now refs.now rows.now named used many × (t < many) }
-    ensures token { result ≡ token_choice (terms_in file.now names.now refs.now
-        rows.now used many) rows.now t }
-    ensures within { Within named many result }
-{
-    let kind = terms::kind(rows, t);
-    if kind == terms::FREE {
-        return Choice::Token(terms::head(rows, t));
+    // `is_ambient_refinement`: a squash, or a refinement by its name.
+    fn is_ambient_refinement(&self, ty: usize) -> bool
+        requires { ty < self.now.many }
+        ensures { result ≡ is_ambient_refinement (terms self.now) ty }
+    {
+        if self.is_call(ty, SQUASH) {
+            return true;
+        }
+        if !terms::has_head(self.rows, ty) {
+            return false;
+        }
+        let n = terms::head(self.rows, ty);
+        self.name_starts(n, b"Tm_refine_")
     }
-    if kind != terms::CALL {
-        return Choice::Nothing;
-    }
-    if count(rows, used, many, t) != 0 {
-        return Choice::Nothing;
-    }
-    Choice::Token(terms::head(rows, t))
-}
 
-// The second argument of the hasEq of two in a Valid of one.
-fn has_eq(
-    file: &[u8],
-    names: &[u32],
-    refs: &[u32],
-    rows: &[u32],
-    named: usize,
-    used: usize,
-    many: usize,
-    t: usize,
-) -> Argument
-    requires { Tables file.now names.now refs.now rows.now named used many × (t < many) }
-    ensures argument { as_option result ≡ has_eq (terms_in file.now names.now refs.now
-        rows.now used many) t }
-    ensures within { (u : ℕ) → result ≡ Argument.Is u → u < many }
-{
-    let Argument::Is(valid) = call_one(names, refs, rows, named, used, many, t, VALID) else {
-        return Argument::No;
-    };
-    let Arguments::Are(_, ty) = call_two(names, refs, rows, named, used, many, valid, HAS_EQ) else {
-        return Argument::No;
-    };
-    Argument::Is(ty)
-}
-
-// (1) `iff` of two, fact name starting l_quant_interp: {left}.
-fn rule_1(
-    file: &[u8],
-    names: &[u32],
-    refs: &[u32],
-    rows: &[u32],
-    named: usize,
-    used: usize,
-    many: usize,
-    name: usize,
-    t: usize,
-) -> Tried
-    requires { OfTables file.now names.now refs.now rows.now named used many name t }
-    ensures { Rule choose_1 file.now names.now refs.now rows.now named used
-        many name t result }
-{
-    let Arguments::Are(left, _) = op_two(refs, rows, named, used, many, t, IFF) else {
-        return Tried::No;
-    };
-    if !name_starts(file, names, named, name, b"l_quant_interp") {
-        return Tried::No;
-    }
-    Tried::Yes(Choice::One(left))
-}
-
-// (2) Name starting assumption_: {whole term}.
-fn rule_2(
-    file: &[u8],
-    names: &[u32],
-    refs: &[u32],
-    rows: &[u32],
-    named: usize,
-    used: usize,
-    many: usize,
-    name: usize,
-    t: usize,
-) -> Tried
-    requires { OfTables file.now names.now refs.now rows.now named used many name t }
-    ensures { Rule choose_2 file.now names.now refs.now rows.now named used
-        many name t result }
-{
-    if !name_starts(file, names, named, name, b"assumption_") {
-        return Tried::No;
-    }
-    Tried::Yes(Choice::One(t))
-}
-
-// (3) HasType of two, type a squash or a refinement: the triggers of the payload, or ambient root.
-fn rule_3(
-    file: &[u8],
-    names: &[u32],
-    refs: &[u32],
-    rows: &[u32],
-    named: usize,
-    used: usize,
-    many: usize,
-    name: usize,
-    t: usize,
-) -> Tried
-    requires { OfTables file.now names.now refs.now rows.now named used many name t }
-    ensures { Rule choose_3 file.now names.now refs.now rows.now named used
-        many name t result }
-{
-    let Arguments::Are(_, ty) = call_two(names, refs, rows, named, used, many, t, HAS_TYPE) else {
-        return Tried::No;
-    };
-    if !is_ambient_refinement(file, names, refs, rows, named, used, many, ty) {
-        return Tried::No;
-    }
-    Tried::Yes(Choice::Refinement(ambient_refinement_payload(
-        file, names, refs, rows, named, used, many, ty,
-    )))
-}
-
-// (4) Valid of ApplyTT of __uu__PartialApp and a token: {token}, {token less @tok}; no token, no disjunct.
-fn rule_4(
-    file: &[u8],
-    names: &[u32],
-    refs: &[u32],
-    rows: &[u32],
-    named: usize,
-    used: usize,
-    many: usize,
-    name: usize,
-    t: usize,
-) -> Tried
-    requires { OfTables file.now names.now refs.now rows.now named used many name t }
-    ensures { Rule choose_4 file.now names.now refs.now rows.now named used
-        many name t result }
-{
-    let Argument::Is(applied) = call_one(names, refs, rows, named, used, many, t, VALID) else {
-        return Tried::No;
-    };
-    let Arguments::Are(function, argument) = call_two(
-        names, refs, rows, named, used, many, applied, APPLY_TT,
-    ) else {
-        return Tried::No;
-    };
-    if !is_head(names, rows, function, PARTIAL_APP) {
-        return Tried::No;
-    }
-    Tried::Yes(token(file, names, refs, rows, named, used, many, argument))
-}
-
-// (5) Valid, IsTotFun, is-Tm_arrow of one, HasType of two: {first}.
-fn rule_5(
-    file: &[u8],
-    names: &[u32],
-    refs: &[u32],
-    rows: &[u32],
-    named: usize,
-    used: usize,
-    many: usize,
-    name: usize,
-    t: usize,
-) -> Tried
-    requires { OfTables file.now names.now refs.now rows.now named used many name t }
-    ensures { Rule choose_5 file.now names.now refs.now rows.now named used
-        many name t result }
-{
-    if let Argument::Is(first) = call_one(names, refs, rows, named, used, many, t, VALID) {
-        return Tried::Yes(Choice::One(first));
-    }
-    if let Arguments::Are(first, _) = call_two(names, refs, rows, named, used, many, t, HAS_TYPE) {
-        return Tried::Yes(Choice::One(first));
-    }
-    if let Argument::Is(first) = call_one(names, refs, rows, named, used, many, t, IS_TOT_FUN) {
-        return Tried::Yes(Choice::One(first));
-    }
-    if let Argument::Is(first) = call_one(names, refs, rows, named, used, many, t, IS_TM_ARROW) {
-        return Tried::Yes(Choice::One(first));
-    }
-    Tried::No
-}
-
-// (6) `eq` of two whose right is Term_constr_id of one: {its argument}.
-fn rule_6(
-    file: &[u8],
-    names: &[u32],
-    refs: &[u32],
-    rows: &[u32],
-    named: usize,
-    used: usize,
-    many: usize,
-    name: usize,
-    t: usize,
-) -> Tried
-    requires { OfTables file.now names.now refs.now rows.now named used many name t }
-    ensures { Rule choose_6 file.now names.now refs.now rows.now named used
-        many name t result }
-{
-    let Arguments::Are(_, right) = op_two(refs, rows, named, used, many, t, EQ) else {
-        return Tried::No;
-    };
-    let Argument::Is(argument) = call_one(
-        names,
-        refs,
-        rows,
-        named,
-        used,
-        many,
-        right,
-        TERM_CONSTR_ID,
-    ) else {
-        return Tried::No;
-    };
-    Tried::Yes(Choice::One(argument))
-}
-
-// (7) `and`: all triggers of its parts.
-fn rule_7(
-    file: &[u8],
-    names: &[u32],
-    refs: &[u32],
-    rows: &[u32],
-    named: usize,
-    used: usize,
-    many: usize,
-    name: usize,
-    t: usize,
-) -> Tried
-    requires { OfTables file.now names.now refs.now rows.now named used many name t }
-    ensures { Rule choose_7 file.now names.now refs.now rows.now named used
-        many name t result }
-{
-    if !is_op(rows, t, AND) {
-        return Tried::No;
-    }
-    Tried::Yes(Choice::Parts(t))
-}
-
-// (8) `eq` of two, name starting equation_: {left}.
-fn rule_8(
-    file: &[u8],
-    names: &[u32],
-    refs: &[u32],
-    rows: &[u32],
-    named: usize,
-    used: usize,
-    many: usize,
-    name: usize,
-    t: usize,
-) -> Tried
-    requires { OfTables file.now names.now refs.now rows.now named used many name t }
-    ensures { Rule choose_8 file.now names.now refs.now rows.now named used
-        many name t result }
-{
-    let Arguments::Are(left, _) = op_two(refs, rows, named, used, many, t, EQ) else {
-        return Tried::No;
-    };
-    if !name_starts(file, names, named, name, b"equation_") {
-        return Tried::No;
-    }
-    Tried::Yes(Choice::One(left))
-}
-
-// (9) `iff` of two: hasEq on both sides gives {left's second argument}; else {left}, {right}.
-fn rule_9(
-    file: &[u8],
-    names: &[u32],
-    refs: &[u32],
-    rows: &[u32],
-    named: usize,
-    used: usize,
-    many: usize,
-    name: usize,
-    t: usize,
-) -> Tried
-    requires { OfTables file.now names.now refs.now rows.now named used many name t }
-    ensures { Rule choose_9 file.now names.now refs.now rows.now named used
-        many name t result }
-{
-    let Arguments::Are(left, right) = op_two(refs, rows, named, used, many, t, IFF) else {
-        return Tried::No;
-    };
-    let Argument::Is(ty) = has_eq(file, names, refs, rows, named, used, many, left) else {
-        return Tried::Yes(Choice::Two(left, right));
-    };
-    let Argument::Is(_) = has_eq(file, names, refs, rows, named, used, many, right) else {
-        return Tried::Yes(Choice::Two(left, right));
-    };
-    Tried::Yes(Choice::One(ty))
-}
-
-// (10) `eq` of two: {left}, {right}.
-fn rule_10(
-    file: &[u8],
-    names: &[u32],
-    refs: &[u32],
-    rows: &[u32],
-    named: usize,
-    used: usize,
-    many: usize,
-    name: usize,
-    t: usize,
-) -> Tried
-    requires { OfTables file.now names.now refs.now rows.now named used many name t }
-    ensures { Rule choose_10 file.now names.now refs.now rows.now named used
-        many name t result }
-{
-    let Arguments::Are(left, right) = op_two(refs, rows, named, used, many, t, EQ) else {
-        return Tried::No;
-    };
-    Tried::Yes(Choice::Two(left, right))
-}
-
-// (11) `true`: drop.
-fn rule_11(
-    file: &[u8],
-    names: &[u32],
-    refs: &[u32],
-    rows: &[u32],
-    named: usize,
-    used: usize,
-    many: usize,
-    name: usize,
-    t: usize,
-) -> Tried
-    requires { OfTables file.now names.now refs.now rows.now named used many name t }
-    ensures { Rule choose_11 file.now names.now refs.now rows.now named used
-        many name t result }
-{
-    if !is_op(rows, t, TRUE) {
-        return Tried::No;
-    }
-    Tried::Yes(Choice::Drop)
-}
-
-// `maybe_add_ambient`: the first of the twelve rules that holds. The term has no triggers.
-fn maybe_add_ambient(
-    file: &[u8],
-    names: &[u32],
-    refs: &[u32],
-    rows: &[u32],
-    named: usize,
-    used: usize,
-    many: usize,
-    name: usize,
-    t: usize,
-) -> Ruled
-    requires { OfTables file.now names.now refs.now rows.now named used many name t
-        × (groups_at rows.now t ≡ 0) }
-    ensures { RuledAs ambient_choice maybe_add_ambient ambient_number file.now names.now
-        refs.now rows.now named used many name t result }
-{
-    if let Tried::Yes(chosen) = rule_1(file, names, refs, rows, named, used, many, name, t) {
-        return Ruled {
-            rule: 1,
-            choice: chosen,
+    // `ambient_refinement_payload`: the second argument of a squash of two, else the type.
+    fn ambient_refinement_payload(&self, ty: usize) -> usize
+        requires { ty < self.now.many }
+        ensures payload { result ≡ ambient_refinement_payload
+            (terms self.now) ty }
+        ensures within { result < self.now.many }
+    {
+        let Some((_, payload)) = self.call_two(ty, SQUASH) else {
+            return ty;
         };
+        payload
     }
-    if let Tried::Yes(chosen) = rule_2(file, names, refs, rows, named, used, many, name, t) {
-        return Ruled {
-            rule: 2,
-            choice: chosen,
-        };
-    }
-    if let Tried::Yes(chosen) = rule_3(file, names, refs, rows, named, used, many, name, t) {
-        return Ruled {
-            rule: 3,
-            choice: chosen,
-        };
-    }
-    if let Tried::Yes(chosen) = rule_4(file, names, refs, rows, named, used, many, name, t) {
-        return Ruled {
-            rule: 4,
-            choice: chosen,
-        };
-    }
-    if let Tried::Yes(chosen) = rule_5(file, names, refs, rows, named, used, many, name, t) {
-        return Ruled {
-            rule: 5,
-            choice: chosen,
-        };
-    }
-    if let Tried::Yes(chosen) = rule_6(file, names, refs, rows, named, used, many, name, t) {
-        return Ruled {
-            rule: 6,
-            choice: chosen,
-        };
-    }
-    if let Tried::Yes(chosen) = rule_7(file, names, refs, rows, named, used, many, name, t) {
-        return Ruled {
-            rule: 7,
-            choice: chosen,
-        };
-    }
-    if let Tried::Yes(chosen) = rule_8(file, names, refs, rows, named, used, many, name, t) {
-        return Ruled {
-            rule: 8,
-            choice: chosen,
-        };
-    }
-    if let Tried::Yes(chosen) = rule_9(file, names, refs, rows, named, used, many, name, t) {
-        return Ruled {
-            rule: 9,
-            choice: chosen,
-        };
-    }
-    if let Tried::Yes(chosen) = rule_10(file, names, refs, rows, named, used, many, name, t) {
-        return Ruled {
-            rule: 10,
-            choice: chosen,
-        };
-    }
-    if let Tried::Yes(chosen) = rule_11(file, names, refs, rows, named, used, many, name, t) {
-        return Ruled {
-            rule: 11,
-            choice: chosen,
-        };
-    }
-    Ruled {
-        rule: 12,
-        choice: Choice::Ambient,
-    }
-}
 
-// What becomes of a fact, of its name and term: by its triggers if it has any, else by the twelve rules.
-fn choose_rule(
-    file: &[u8],
-    names: &[u32],
-    refs: &[u32],
-    rows: &[u32],
-    named: usize,
-    used: usize,
-    many: usize,
-    name: usize,
-    t: usize,
-) -> Ruled
-    requires { OfTables file.now names.now refs.now rows.now named used many name t }
-    ensures { RuledAs kind_choice summarize_kind rule_number file.now names.now
-        refs.now rows.now named used many name t result }
-{
-    if terms::group_count(rows, t) == 0 {
-        return maybe_add_ambient(file, names, refs, rows, named, used, many, name, t);
+    // The token of a partial application: the name of a `free` or of a call of none.
+    fn token(&self, t: usize) -> Choice
+        requires { t < self.now.many }
+        ensures token { result ≡ token_choice (terms self.now) self.now.rows.now t }
+        ensures within { Within self.now.named self.now.many result }
+    {
+        let kind = terms::kind(self.rows, t);
+        if kind == terms::FREE {
+            return Choice::Token(terms::head(self.rows, t));
+        }
+        if kind != terms::CALL {
+            return Choice::Nothing;
+        }
+        if self.count(t) != 0 {
+            return Choice::Nothing;
+        }
+        Choice::Token(terms::head(self.rows, t))
     }
-    Ruled {
-        rule: 0,
-        choice: Choice::Groups(t),
+
+    // The second argument of the hasEq of two in a Valid of one.
+    fn has_eq(&self, t: usize) -> Option<usize>
+        requires { t < self.now.many }
+        ensures argument { result ≡ has_eq (terms self.now) t }
+        ensures within { IfSome result (λ u. u < self.now.many) }
+    {
+        let valid = self.call_one(t, VALID)?;
+        let (_, ty) = self.call_two(valid, HAS_EQ)?;
+        Some(ty)
     }
-}
 
-// The kind of a fact.
-pub fn summarize_kind(
-    file: &[u8],
-    names: &[u32],
-    refs: &[u32],
-    rows: &[u32],
-    named: usize,
-    used: usize,
-    many: usize,
-    name: usize,
-    t: usize,
-) -> Choice
-    requires { OfTables file.now names.now refs.now rows.now named used many name t }
-    ensures { Chosen kind_choice summarize_kind file.now names.now refs.now
-        rows.now named used many name t result }
-{
-    let ruled = choose_rule(file, names, refs, rows, named, used, many, name, t);
-    ruled.choice
-}
+    // (1) `iff` of two, fact name starting l_quant_interp: {left}.
+    #[tactic(auto, unfolding(crate::specs::Choices::choose_1, crate::specs::Choices::Within, model::specs::Summaries::at, model::specs::Names::bytes, model::specs::Lists::when))]
+    fn rule_1(&self, name: usize, t: usize) -> Option<Choice>
+        requires { IsFact self.now name t }
+        ensures { Rule choose_1 self.now name t result }
+    {
+        let (left, _) = self.op_two(t, IFF)?;
+        if !self.name_starts(name, b"l_quant_interp") {
+            return None;
+        }
+        Some(Choice::One(left))
+    }
 
-// The number of the rule that gives a fact its kind, 0 where its own triggers do.
-pub fn rule_of(
-    file: &[u8],
-    names: &[u32],
-    refs: &[u32],
-    rows: &[u32],
-    named: usize,
-    used: usize,
-    many: usize,
-    name: usize,
-    t: usize,
-) -> usize
-    requires { OfTables file.now names.now refs.now rows.now named used many name t }
-    ensures { (exclude : List Name) → result ≡ rule_number exclude (terms_in file.now names.now
-        refs.now rows.now used many) (name_of file.now names.now name) t }
-{
-    let ruled = choose_rule(file, names, refs, rows, named, used, many, name, t);
-    ruled.rule
+    // (2) Name starting assumption_: {whole term}.
+    #[tactic(auto, unfolding(crate::specs::Choices::choose_2, crate::specs::Choices::Within, model::specs::Names::bytes, model::specs::Lists::when))]
+    fn rule_2(&self, name: usize, t: usize) -> Option<Choice>
+        requires { IsFact self.now name t }
+        ensures { Rule choose_2 self.now name t result }
+    {
+        if !self.name_starts(name, b"assumption_") {
+            return None;
+        }
+        Some(Choice::One(t))
+    }
+
+    // (3) HasType of two, type a squash or a refinement: the triggers of the payload, or ambient root.
+    fn rule_3(&self, name: usize, t: usize) -> Option<Choice>
+        requires { IsFact self.now name t }
+        ensures { Rule choose_3 self.now name t result }
+    {
+        let (_, ty) = self.call_two(t, HAS_TYPE)?;
+        if !self.is_ambient_refinement(ty) {
+            return None;
+        }
+        Some(Choice::Refinement(self.ambient_refinement_payload(ty)))
+    }
+
+    // (4) Valid of ApplyTT of __uu__PartialApp and a token: {token}, {token less @tok}; no token, no disjunct.
+    fn rule_4(&self, name: usize, t: usize) -> Option<Choice>
+        requires { IsFact self.now name t }
+        ensures { Rule choose_4 self.now name t result }
+    {
+        let applied = self.call_one(t, VALID)?;
+        let (function, argument) = self.call_two(applied, APPLY_TT)?;
+        if !self.is_head(function, PARTIAL_APP) {
+            return None;
+        }
+        Some(self.token(argument))
+    }
+
+    // (5) Valid, IsTotFun, is-Tm_arrow of one, HasType of two: {first}.
+    fn rule_5(&self, name: usize, t: usize) -> Option<Choice>
+        requires { IsFact self.now name t }
+        ensures { Rule choose_5 self.now name t result }
+    {
+        if let Some(first) = self.call_one(t, VALID) {
+            return Some(Choice::One(first));
+        }
+        if let Some((first, _)) = self.call_two(t, HAS_TYPE) {
+            return Some(Choice::One(first));
+        }
+        if let Some(first) = self.call_one(t, IS_TOT_FUN) {
+            return Some(Choice::One(first));
+        }
+        if let Some(first) = self.call_one(t, IS_TM_ARROW) {
+            return Some(Choice::One(first));
+        }
+        None
+    }
+
+    // (6) `eq` of two whose right is Term_constr_id of one: {its argument}.
+    fn rule_6(&self, name: usize, t: usize) -> Option<Choice>
+        requires { IsFact self.now name t }
+        ensures { Rule choose_6 self.now name t result }
+    {
+        let (_, right) = self.op_two(t, EQ)?;
+        let argument = self.call_one(right, TERM_CONSTR_ID)?;
+        Some(Choice::One(argument))
+    }
+
+    // (7) `and`: all triggers of its parts.
+    fn rule_7(&self, name: usize, t: usize) -> Option<Choice>
+        requires { IsFact self.now name t }
+        ensures { Rule choose_7 self.now name t result }
+    {
+        if !self.is_op(t, AND) {
+            return None;
+        }
+        Some(Choice::Parts(t))
+    }
+
+    // (8) `eq` of two, name starting equation_: {left}.
+    #[tactic(auto, unfolding(crate::specs::Choices::choose_8, crate::specs::Choices::Within, model::specs::Summaries::at, model::specs::Names::bytes, model::specs::Lists::when))]
+    fn rule_8(&self, name: usize, t: usize) -> Option<Choice>
+        requires { IsFact self.now name t }
+        ensures { Rule choose_8 self.now name t result }
+    {
+        let (left, _) = self.op_two(t, EQ)?;
+        if !self.name_starts(name, b"equation_") {
+            return None;
+        }
+        Some(Choice::One(left))
+    }
+
+    // (9) `iff` of two: hasEq on both sides gives {left's second argument}; else {left}, {right}.
+    fn rule_9(&self, name: usize, t: usize) -> Option<Choice>
+        requires { IsFact self.now name t }
+        ensures { Rule choose_9 self.now name t result }
+    {
+        let (left, right) = self.op_two(t, IFF)?;
+        let Some(ty) = self.has_eq(left) else {
+            return Some(Choice::Two(left, right));
+        };
+        let Some(_) = self.has_eq(right) else {
+            return Some(Choice::Two(left, right));
+        };
+        Some(Choice::One(ty))
+    }
+
+    // (10) `eq` of two: {left}, {right}.
+    fn rule_10(&self, name: usize, t: usize) -> Option<Choice>
+        requires { IsFact self.now name t }
+        ensures { Rule choose_10 self.now name t result }
+    {
+        let (left, right) = self.op_two(t, EQ)?;
+        Some(Choice::Two(left, right))
+    }
+
+    // (11) `true`: drop.
+    fn rule_11(&self, name: usize, t: usize) -> Option<Choice>
+        requires { IsFact self.now name t }
+        ensures { Rule choose_11 self.now name t result }
+    {
+        if !self.is_op(t, TRUE) {
+            return None;
+        }
+        Some(Choice::Drop)
+    }
+
+    // `maybe_add_ambient`: the first of the twelve rules that holds. The term has no triggers.
+    fn maybe_add_ambient(&self, name: usize, t: usize) -> Ruled
+        requires { IsFact self.now name t
+            × (groups_at self.now.rows.now t ≡ 0) }
+        ensures { RuledAs ambient_choice maybe_add_ambient ambient_number self.now name t result }
+    {
+        if let Some(chosen) = self.rule_1(name, t) {
+            return Ruled {
+                rule: 1,
+                choice: chosen,
+            };
+        }
+        if let Some(chosen) = self.rule_2(name, t) {
+            return Ruled {
+                rule: 2,
+                choice: chosen,
+            };
+        }
+        if let Some(chosen) = self.rule_3(name, t) {
+            return Ruled {
+                rule: 3,
+                choice: chosen,
+            };
+        }
+        if let Some(chosen) = self.rule_4(name, t) {
+            return Ruled {
+                rule: 4,
+                choice: chosen,
+            };
+        }
+        if let Some(chosen) = self.rule_5(name, t) {
+            return Ruled {
+                rule: 5,
+                choice: chosen,
+            };
+        }
+        if let Some(chosen) = self.rule_6(name, t) {
+            return Ruled {
+                rule: 6,
+                choice: chosen,
+            };
+        }
+        if let Some(chosen) = self.rule_7(name, t) {
+            return Ruled {
+                rule: 7,
+                choice: chosen,
+            };
+        }
+        if let Some(chosen) = self.rule_8(name, t) {
+            return Ruled {
+                rule: 8,
+                choice: chosen,
+            };
+        }
+        if let Some(chosen) = self.rule_9(name, t) {
+            return Ruled {
+                rule: 9,
+                choice: chosen,
+            };
+        }
+        if let Some(chosen) = self.rule_10(name, t) {
+            return Ruled {
+                rule: 10,
+                choice: chosen,
+            };
+        }
+        if let Some(chosen) = self.rule_11(name, t) {
+            return Ruled {
+                rule: 11,
+                choice: chosen,
+            };
+        }
+        Ruled {
+            rule: 12,
+            choice: Choice::Ambient,
+        }
+    }
+
+    // What becomes of a fact, of its name and term: by its triggers if it has any, else by the twelve rules.
+    fn choose_rule(&self, name: usize, t: usize) -> Ruled
+        requires { IsFact self.now name t }
+        ensures { RuledAs kind_choice summarize_kind rule_number self.now name t result }
+    {
+        if terms::group_count(self.rows, t) == 0 {
+            return self.maybe_add_ambient(name, t);
+        }
+        Ruled {
+            rule: 0,
+            choice: Choice::Groups(t),
+        }
+    }
+
+    // The kind of a fact.
+    pub fn summarize_kind(&self, name: usize, t: usize) -> Choice
+        requires { IsFact self.now name t }
+        ensures { ChosenFor kind_choice summarize_kind self.now name t result }
+    {
+        let ruled = self.choose_rule(name, t);
+        ruled.choice
+    }
+
+    // The number of the rule that gives a fact its kind, 0 where its own triggers do.
+    pub fn rule_of(&self, name: usize, t: usize) -> usize
+        requires { IsFact self.now name t }
+        ensures { (exclude : List Name) → result ≡ rule_number exclude (terms self.now) (name_numbered self.now name) t }
+    {
+        let ruled = self.choose_rule(name, t);
+        ruled.rule
+    }
 }

@@ -150,7 +150,6 @@ module _ {names recs lists : List ℕ} {k : Counts} (laid : Laid names recs list
 -- the names below n are swept
 pub record Swept (names recs lists : List ℕ) (k : Counts) (a : Asked) (g₀ : Going) (n : ℕ) (g : Going) : Type 0 where
   pub goes : g ≡ visits_of (held_of names recs lists k a) g₀ (visited (held_of names recs lists k a) g₀.scan.rounds g₀.run n)
-  pub small : n ≤ k.names
 
 module _ {names recs lists : List ℕ} {k : Counts} (laid : Laid names recs lists k) (a : Asked) where
   abbrev t : Held
@@ -158,7 +157,7 @@ module _ {names recs lists : List ℕ} {k : Counts} (laid : Laid names recs list
 
   pub sweep_start : (g : Going) → Swept names recs lists k a g 0 g
   unfolding visited visits_of fold_left
-  sweep_start g = record { goes = refl; small = omega arith }
+  sweep_start g = record { goes = refl }
 
   module _ {g₀ g : Going} {n : ℕ} (steady : Steady g₀) (c : Swept names recs lists k a g₀ n g) where
     pub sweep_fired : Fired t g₀ g (visited t g₀.scan.rounds g₀.run n)
@@ -193,10 +192,7 @@ module _ {names recs lists : List ℕ} {k : Counts} (laid : Laid names recs list
     pub sweep_skip : n < k.names → (x : ℕ) → x ≡ get_or g.run n 0 → (x ≡ g₀.scan.rounds → ⊥) → Swept names recs lists k a g₀ (n + 1) g
     unfolding visited
     sweep_skip l x e d =
-        record {
-          goes = rw (add-one n, ne_eqb (get_or g₀.run n 0) g₀.scan.rounds (λ z. d (word_same l x e ∙ z)), append-nil) c.goes;
-          small = omega arith;
-        }
+        record { goes = rw (add-one n, ne_eqb (get_or g₀.run n 0) g₀.scan.rounds (λ z. d (word_same l x e ∙ z)), append-nil) c.goes }
 
     pub sweep_next : {v : Going} → n < k.names → (x : ℕ) → x ≡ get_or g.run n 0 → x ≡ g₀.scan.rounds
         → v ≡ visits_of t g (waiting t n k.entries) → Swept names recs lists k a g₀ (n + 1) v
@@ -209,12 +205,9 @@ module _ {names recs lists : List ℕ} {k : Counts} (laid : Laid names recs list
             fold_left_append (visit t) g₀ (visited t g₀.scan.rounds g₀.run n) (waiting t n k.entries),
             ← c.goes,
           ) goes;
-          small = omega arith;
         }
 
-  pub sweep_end : {g₀ g : Going} {n : ℕ} → Swept names recs lists k a g₀ n g → k.names ≤ n → g ≡ visit_phase t g₀
+  pub sweep_end : {g₀ g : Going} {n : ℕ} → Swept names recs lists k a g₀ n g → n ≡ k.names → g ≡ visit_phase t g₀
   unfolding visit_phase held_of
-  sweep_end {g₀} {g} {n} c l =
-      let m = c.small in
-      let e : n ≡ k.names = omega arith in
+  sweep_end {g₀} {g} {n} c e =
       subst (λ n. g ≡ visits_of t g₀ (visited t g₀.scan.rounds g₀.run n)) e c.goes

@@ -30,11 +30,9 @@ pub record Scanned (meets : ℕ → List ℕ) (s : Scan) (w₀ : List ℕ) (j : 
       ≡ marks (s.rounds + 1) w (collect meets (part w₀ (work_column + j) (work_column + s.to)))
   pub same_length : length w ≡ length w₀
   pub high : (i : ℕ) → most_names ≤ i → get_or w i 0 ≡ get_or w₀ i 0
-  pub low : s.from ≤ j
-  pub top : j ≤ s.to
 
-pub scan_start : (meets : ℕ → List ℕ) (s : Scan) (w : List ℕ) → s.from ≤ s.to → Scanned meets s w s.from w
-scan_start meets s w l = record { left = refl; same_length = refl; high = λ j k. refl; low = omega arith; top = l }
+pub scan_start : (meets : ℕ → List ℕ) (s : Scan) (w : List ℕ) → Scanned meets s w s.from w
+scan_start meets s w = record { left = refl; same_length = refl; high = λ j k. refl }
 
 module _ {names recs lists : List ℕ} {k : Counts} (laid : Laid names recs lists k) (a : Asked) {s : Scan} {w₀ : List ℕ}
     (ready : Ready (held_of names recs lists k a) (going s w₀)) where
@@ -42,25 +40,23 @@ module _ {names recs lists : List ℕ} {k : Counts} (laid : Laid names recs list
   meets = record_meets names recs lists
 
   -- the item at j
-  pub scan_item : {j i : ℕ} {w : List ℕ} → Scanned meets s w₀ j w → j < s.to → i ≡ get_or w (work_column + j) 0 → i < k.records
+  pub scan_item : {j i : ℕ} {w : List ℕ} → Scanned meets s w₀ j w → s.from ≤ j → j < s.to → i ≡ get_or w (work_column + j) 0 → i < k.records
   unfolding held_of items
-  scan_item {j} {i} {w} z l e =
+  scan_item {j} {i} {w} z lo l e =
       let x = ready.room.fits in
       let y = ready.room.long in
-      let lo = z.low in
       let same : i ≡ get_or w₀ (work_column + j) 0 = e ∙ z.high (work_column + j) (omega arith) in
       subst (λ i. i < k.records) (sym same)
       (ready.items_small (get_or w₀ (work_column + j) 0)
       (part_intro w₀ (work_column + s.from) (work_column + s.to) (work_column + j) (omega arith) (omega arith) (omega arith)))
 
-  pub scan_next : {j i : ℕ} {w v : List ℕ} → Scanned meets s w₀ j w → j < s.to → i ≡ get_or w (work_column + j) 0
+  pub scan_next : {j i : ℕ} {w v : List ℕ} → Scanned meets s w₀ j w → s.from ≤ j → j < s.to → i ≡ get_or w (work_column + j) 0
       → v ≡ marks (s.rounds + 1) w (meets i) → Scanned meets s w₀ (j + 1) v
   unfolding collect held_of
-  scan_next {j} {i} {w} {v} z l e g =
+  scan_next {j} {i} {w} {v} z lo l e g =
       let x = ready.room.fits in
       let y = ready.room.long in
-      let lo = z.low in
-      let small = scan_item z l e in
+      let small = scan_item z lo l e in
       let r = s.rounds + 1 in
       let here = meets i in
       let f : i ≡ get_or w₀ (work_column + j) 0 = e ∙ z.high (work_column + j) (omega arith) in
@@ -78,8 +74,6 @@ module _ {names recs lists : List ℕ} {k : Counts} (laid : Laid names recs list
         high = λ m o. ap (λ (v : List ℕ). get_or v m 0) g
             ∙ marks_out r w here m (λ q. let y = opened_small (held_of names recs lists k a) (laid.fits a) i m small q in let few = laid.few_names in omega arith)
             ∙ z.high m o;
-        low = omega arith;
-        top = omega arith;
       }
 
 pub scan_end : (names recs lists : List ℕ) (k : Counts) (a : Asked) {s : Scan} {w₀ w : List ℕ} {j : ℕ}

@@ -29,40 +29,36 @@ use Rattle.firing.proofs.Clearing.{clear_length, clear_zero, few_unreached, few_
 abbrev with_end : Scan → ℕ → Scan
 with_end s to = record { from = s.from; to = to; visits = s.visits; rounds = s.rounds; triggered = s.triggered }
 
--- the first i of so many records are looked at
-pub record Adding (test : ℕ → Bool) (s : Scan) (w₀ : List ℕ) (count i to : ℕ) (w : List ℕ) : Type 0 where
-  pub within : i ≤ count
+-- the first i records are looked at
+pub record Adding (test : ℕ → Bool) (s : Scan) (w₀ : List ℕ) (i to : ℕ) (w : List ℕ) : Type 0 where
   pub few : to ≤ s.to + i
   pub same_length : length w ≡ length w₀
   pub goes : going (with_end s to) w ≡ pushed test i (going s w₀)
 
-module _ {test : ℕ → Bool} {s : Scan} {w₀ : List ℕ} {count : ℕ} where
-  pub add_start : Adding test s w₀ count 0 s.to w₀
+module _ {test : ℕ → Bool} {s : Scan} {w₀ : List ℕ} where
+  pub add_start : Adding test s w₀ 0 s.to w₀
   unfolding pushed
-  add_start = record { within = omega arith; few = omega arith; same_length = refl; goes = refl }
+  add_start = record { few = omega arith; same_length = refl; goes = refl }
 
-  module _ {i to : ℕ} {w : List ℕ} (a : Adding test s w₀ count i to w) (l : i < count) {b : Bool} (p : b ≡ test i) where
-    pub add_skip : b ≡ false → Adding test s w₀ count (i + 1) to w
+  module _ {i to : ℕ} {w : List ℕ} (a : Adding test s w₀ i to w) {b : Bool} (p : b ≡ test i) where
+    pub add_skip : b ≡ false → Adding test s w₀ (i + 1) to w
     unfolding pushed
     add_skip q =
         let few = a.few in
-        record { within = omega arith; few = omega arith; same_length = a.same_length; goes = rw (add-one i, ← p, q) a.goes }
+        record { few = omega arith; same_length = a.same_length; goes = rw (add-one i, ← p, q) a.goes }
 
-    pub add_next : b ≡ true → Adding test s w₀ count (i + 1) (to + 1) (set w (work_column + to) i)
+    pub add_next : b ≡ true → Adding test s w₀ (i + 1) (to + 1) (set w (work_column + to) i)
     unfolding pushed push
     add_next q =
         let few = a.few in
         record {
-          within = omega arith;
           few = omega arith;
           same_length = length-set w (work_column + to) i ∙ a.same_length;
           goes = rw (add-one i, ← p, q, ← a.goes);
         }
 
-  pub add_end : {i to : ℕ} {w : List ℕ} → Adding test s w₀ count i to w → count ≤ i → going (with_end s to) w ≡ pushed test count (going s w₀)
-  add_end {i} {to} {w} a l =
-      let k = a.within in
-      let e : i ≡ count = omega arith in
+  pub add_end : {i to count : ℕ} {w : List ℕ} → Adding test s w₀ i to w → i ≡ count → going (with_end s to) w ≡ pushed test count (going s w₀)
+  add_end {to = to} {w = w} a e =
       subst (λ n. going (with_end s to) w ≡ pushed test n (going s w₀)) e a.goes
 
 -- the worklist with these records behind it

@@ -6,8 +6,8 @@ use Rattle.model.specs.Reading.{most_names, most_records, most_entries, most_ask
 use Rattle.firing.specs.Held.{Held, upto, waiting}
 use Rattle.scan.specs.declared.Scan.{Scan}
 use Rattle.model.specs.declared.Asked.{Asked}
-use Rattle.model.specs.declared.Counts.{Counts}
-use Rattle.firing.specs.Tables.{held_of}
+use Rattle.firing.specs.declared.tables.RecordTables.{RecordTables}
+use Rattle.firing.specs.Tables.{held_in}
 use Rattle.firing.specs.Met.{reached_column, work_column, run_end, is_met, is_reached, marks, unreached, unmet}
 use Rattle.firing.specs.Firing.{scanned_by, fires_on}
 
@@ -123,5 +123,5 @@ pub record Ready (h : Held) (g : Going) : Type 0 where
   pub only_facts : (i : ℕ) → i < most_records → T (is_reached g.run i) → (i < h.records) × T (h.takes_part i)
 
 -- a step from a state and slice of a run to another
-abbrev pub Goes : List ℕ → List ℕ → List ℕ → Counts → Asked → (Held → Going → Going) → Scan → List ℕ → Scan → List ℕ → Type 0
-Goes names recs lists k a step s w s' w' = going s' w' ≡ step (held_of names recs lists k a) (going s w)
+abbrev pub Goes : RecordTables → Asked → (Held → Going → Going) → Scan → List ℕ → Scan → List ℕ → Type 0
+Goes t a step s w s' w' = going s' w' ≡ step (held_in t a) (going s w)

@@ -5,19 +5,19 @@ ghost use Rattle.model.specs.Reading.{most_records, most_entries};
 ghost use Rattle.model.specs.Outcome.{working_words};
 ghost use Rattle.records.specs.Columns.{ask_room};
 ghost use Rattle.records.specs.States.{ask_of};
-ghost use Rattle.macros.specs.Macros.{Filled};
 ghost use Rattle.firing.specs.Held.{waiting};
-ghost use Rattle.firing.specs.Tables.{held_of, Laid, starts_at};
+ghost use Rattle.firing.specs.Tables.{held_in, IsFilled, IsLaid, starts_at};
 ghost use Rattle.scan.specs.Steps.{Goes, going, visit, visits_of, visit_phase, met_phase, round, Rounds, Steady, Ready, work_room};
 ghost use Rattle.firing.specs.Met.{work_column, run_end, zeroed_to};
 ghost use Rattle.scan.specs.Starts.{first_scan, pushed};
 ghost use Rattle.scan.specs.Runs.{Ran};
 ghost use Rattle.scan.specs.Chains.{before_last, ChainStands, WentOn};
 
-use model::{Asked, Counts};
+use firing::tables::RecordTables;
+use model::Asked;
 
-// The worklist, behind the columns of the run's slice: by name the round first met, by record the round reached. Along a chain the
-// rounds are counted on.
+// The worklist, behind the columns of the run's slice: by name the round first met, by record the round reached. Along a chain
+// the rounds are counted on.
 const WORK: usize = 3072;
 
 // The options number of option 1 alone: an ask with no ambient roots.
@@ -36,15 +36,12 @@ pub struct Scan {
 
 impl Scan {
     // Clears the columns of a run: nothing is met or reached.
+    #[tactic(auto, using(firing::proofs::Clearing::zeroed_is))]
     fn start(run: &mut [u32]) -> Scan
         requires { run_end ≤ length run.old }
         ensures { going result run.new ≡ going first_scan (zeroed_to work_column run.old) }
     {
-        let mut i = 0;
-        while i < WORK {
-            run[i] = 0;
-            i += 1;
-        }
+        words::clear(run, 0, WORK);
         Scan {
             from: 0,
             to: 0,
@@ -55,55 +52,41 @@ impl Scan {
     }
 
     // Puts the records that the first round scans behind the worklist.
-    fn add_roots(self, recs: &[u32], run: &mut [u32], k: Counts, a: Asked) -> Scan
-        requires { (k.records ≤ most_records) × (a.end ≤ ask_room) × (working_words ≤ length recs.now)
-            × (run_end ≤ length run.old) × (self.to + k.records ≤ work_room) }
-        ensures { going result run.new ≡ pushed (starts_at recs.now a) k.records
-            (going self run.old) }
+    #[tactic(auto, using(crate::proofs::Starting::add_start))]
+    fn add_roots(self, tables: &RecordTables, run: &mut [u32], a: Asked) -> Scan
+        requires { (tables.now.k.records ≤ most_records) × (a.end ≤ ask_room)
+            × (working_words ≤ length tables.now.recs.now) × (run_end ≤ length run.old)
+            × (self.to + tables.now.k.records ≤ work_room) }
+        ensures { going result run.new ≡ pushed (starts_at tables.now.recs.now a) tables.now.k.records (going self run.old) }
     {
-        let count = k.records;
         let mut to = self.to;
-        let mut i = 0;
-        while i < count {
-            let j = i;
-            i += 1;
-            if !firing::starts(recs, a, j) {
+        for i in 0..tables.k.records {
+            if !firing::starts(tables.recs, a, i) {
                 continue;
             }
-            run[WORK + to] = j as u32;
+            run[WORK + to] = i as u32;
             to += 1;
         }
-        let mut rooted = self;
-        rooted.to = to;
-        rooted
+        Scan { to, ..self }
     }
 
     // Visits an entry: a fact that fires is triggered, and reached if it is retainable and was not reached.
-    fn visit(
-        self,
-        names: &[u32],
-        recs: &[u32],
-        lists: &[u32],
-        run: &mut [u32],
-        k: Counts,
-        a: Asked,
-        e: usize,
-    ) -> Scan
-        requires { Laid names.now recs.now lists.now k × Steady (going self run.old) × (e < k.entries) }
-        ensures { Goes names.now recs.now lists.now k a (λ h g. visit h g e) self
-            run.old result run.new }
+    #[tactic(auto, using(crate::proofs::Visiting::visit_quiet, crate::proofs::Visiting::visit_dropped, crate::proofs::Visiting::visit_again, crate::proofs::Visiting::visit_new))]
+    fn visit(self, tables: &RecordTables, run: &mut [u32], a: Asked, e: usize) -> Scan
+        requires { IsLaid tables.now × Steady (going self run.old) × (e < tables.now.k.entries) }
+        ensures { Goes tables.now a (λ h g. visit h g e) self run.old result run.new }
     {
-        let i = words::at(lists, records::FACT + e);
-        let start = triggers::ENTRIES + words::at(recs, records::ENTRIES_START + i);
-        let end = triggers::ENTRIES + words::at(recs, records::ENTRIES_END + i);
+        let i = words::at(tables.lists, records::FACT + e);
+        let start = triggers::ENTRIES + words::at(tables.recs, records::ENTRIES_START + i);
+        let end = triggers::ENTRIES + words::at(tables.recs, records::ENTRIES_END + i);
         let to = self.to;
         let mut fired = self;
         fired.visits = self.visits + 1;
-        if !firing::fires(lists, run, start, end) {
+        if !firing::fires(tables.lists, run, start, end) {
             return fired;
         }
         fired.triggered = true;
-        if !firing::retained(recs, a, i) {
+        if !firing::retained(tables.recs, a, i) {
             return fired;
         }
         if words::at(run, firing::REACHED + i) != 0 {
@@ -116,85 +99,54 @@ impl Scan {
     }
 
     // Visits the entries that wait on a name, newest first; those of facts that the ask does not admit are passed over.
-    fn visit_chain(
-        self,
-        names: &[u32],
-        recs: &[u32],
-        lists: &[u32],
-        run: &mut [u32],
-        k: Counts,
-        a: Asked,
-        n: usize,
-    ) -> Scan
-        requires { Laid names.now recs.now lists.now k × Steady (going self run.old) × (self.visits ≤ 2 * most_entries)
-            × (n < k.names) }
-        ensures { Goes names.now recs.now lists.now k a
-            (λ h g. visits_of h g (waiting h n k.entries)) self run.old result run.new }
+    #[tactic(auto, using(crate::proofs::Chaining::chain_end))]
+    fn visit_chain(self, tables: &RecordTables, run: &mut [u32], a: Asked, n: usize) -> Scan
+        requires { IsLaid tables.now × Steady (going self run.old) × (self.visits ≤ 2 * most_entries) × (n < tables.now.k.names) }
+        ensures { Goes tables.now a (λ h g. visits_of h g (waiting h n tables.now.k.entries)) self run.old result run.new }
     {
         let mut s = self;
-        let mut next = words::at(names, records::FIRST + n);
+        let mut next = words::at(tables.names, records::FIRST + n);
+        // The entries are a chain through the lists, not a range: each says which comes next, and there is no iterator over
+        // them.
         while next != 0 {
             let e = next - 1;
-            next = words::at(lists, records::NEXT + e);
-            if !records::takes_part(recs, a, words::at(lists, records::FACT + e)) {
+            next = words::at(tables.lists, records::NEXT + e);
+            if !records::takes_part(tables.recs, a, words::at(tables.lists, records::FACT + e)) {
                 continue;
             }
-            s = s.visit(names, recs, lists, run, k, a, e);
+            s = s.visit(tables, run, a, e);
         }
         s
     }
 
     // Visits the entries of the names first met in this round.
-    fn visit_new(
-        self,
-        names: &[u32],
-        recs: &[u32],
-        lists: &[u32],
-        run: &mut [u32],
-        k: Counts,
-        a: Asked,
-    ) -> Scan
-        requires { Laid names.now recs.now lists.now k × Steady (going self run.old) × (self.visits ≤ most_entries) }
-        ensures { Goes names.now recs.now lists.now k a visit_phase self run.old
-            result run.new }
+    fn visit_new(self, tables: &RecordTables, run: &mut [u32], a: Asked) -> Scan
+        requires { IsLaid tables.now × Steady (going self run.old) × (self.visits ≤ most_entries) }
+        ensures { Goes tables.now a visit_phase self run.old result run.new }
     {
         let round = self.rounds;
-        let named = k.names;
         let mut s = self;
-        let mut n = 0;
-        while n < named {
-            let m = n;
-            n += 1;
-            if words::at(run, m) != round {
+        for n in 0..tables.k.names {
+            if words::at(run, n) != round {
                 continue;
             }
-            s = s.visit_chain(names, recs, lists, run, k, a, m);
+            s = s.visit_chain(tables, run, a, n);
         }
         s
     }
 
     // Meets all that the next round scans, whatever the ask.
-    fn meet_items(
-        self,
-        names: &[u32],
-        recs: &[u32],
-        lists: &[u32],
-        run: &mut [u32],
-        k: Counts,
-    ) -> Scan
-        requires { Laid names.now recs.now lists.now k
-            × ((a : Asked) × Ready (held_of names.now recs.now lists.now k a) (going self run.old)) }
-        ensures { (a : Asked) → Goes names.now recs.now lists.now k a met_phase self
-            run.old result run.new }
+    #[tactic(auto, using(crate::proofs::Phases::scan_item, crate::proofs::Phases::scan_end))]
+    fn meet_items(self, tables: &RecordTables, run: &mut [u32]) -> Scan
+        requires { IsLaid tables.now × ((a : Asked) × Ready (held_in tables.now a) (going self run.old)) }
+        ensures { (a : Asked) → Goes tables.now a met_phase self run.old result run.new }
     {
         let from = self.from;
         let to = self.to;
         let round = self.rounds + 1;
-        let mut j = from;
-        while j < to {
+        for j in from..to {
             let i = words::at(run, WORK + j);
-            firing::meet_record(names, recs, lists, run, k, i, round);
-            j += 1;
+            tables.meet_record(run, i, round);
         }
         Scan {
             from: to,
@@ -206,42 +158,24 @@ impl Scan {
     }
 
     // A round: all that it scans is met, then the entries of the names first met in it are visited.
-    fn round(
-        self,
-        names: &[u32],
-        recs: &[u32],
-        lists: &[u32],
-        run: &mut [u32],
-        k: Counts,
-        a: Asked,
-    ) -> Scan
-        requires { Laid names.now recs.now lists.now k
-            × Ready (held_of names.now recs.now lists.now k a) (going self run.old) }
-        ensures { Goes names.now recs.now lists.now k a round self run.old result
-            run.new }
+    #[tactic(auto, using(crate::proofs::Phases::round_is))]
+    fn round(self, tables: &RecordTables, run: &mut [u32], a: Asked) -> Scan
+        requires { IsLaid tables.now × Ready (held_in tables.now a) (going self run.old) }
+        ensures { Goes tables.now a round self run.old result run.new }
     {
-        let met = self.meet_items(names, recs, lists, run, k);
-        met.visit_new(names, recs, lists, run, k, a)
+        let met = self.meet_items(tables, run);
+        met.visit_new(tables, run, a)
     }
 
     // Round after round, to the one that triggers no fact.
-    fn go_on(
-        self,
-        names: &[u32],
-        recs: &[u32],
-        lists: &[u32],
-        run: &mut [u32],
-        k: Counts,
-        a: Asked,
-    ) -> Scan
-        requires { Laid names.now recs.now lists.now k
-            × Ready (held_of names.now recs.now lists.now k a) (going self run.old) }
-        ensures { Rounds (held_of names.now recs.now lists.now k a)
-            (going self run.old) (going result run.new) }
+    fn go_on(self, tables: &RecordTables, run: &mut [u32], a: Asked) -> Scan
+        requires { IsLaid tables.now × Ready (held_in tables.now a) (going self run.old) }
+        ensures { Rounds (held_in tables.now a) (going self run.old) (going result run.new) }
     {
         let mut s = self;
+        // The last round is known once it triggers no fact, so no range counts them.
         loop {
-            s = s.round(names, recs, lists, run, k, a);
+            s = s.round(tables, run, a);
             if !s.triggered {
                 return s;
             }
@@ -250,39 +184,21 @@ impl Scan {
 }
 
 // Runs an ask over the tables that the reader filled.
-pub fn run_ask(
-    file: &[u8],
-    names: &[u32],
-    recs: &[u32],
-    lists: &[u32],
-    run: &mut [u32],
-    k: Counts,
-    a: Asked,
-) -> Scan
-    requires { Filled file.now names.now recs.now lists.now k × (a.end ≤ ask_room)
-        × (run_end ≤ length run.old) }
-    ensures { Ran file.now names.now recs.now lists.now k a run.old
-        run.new result }
+pub fn run_ask(file: &[u8], tables: &RecordTables, run: &mut [u32], a: Asked) -> Scan
+    requires { IsFilled file.now tables.now × (a.end ≤ ask_room) × (run_end ≤ length run.old) }
+    ensures { Ran file.now tables.now.names.now tables.now.recs.now tables.now.lists.now tables.now.k a run.old run.new result }
 {
     let begun = Scan::start(run);
-    let rooted = begun.add_roots(recs, run, k, a);
-    rooted.go_on(names, recs, lists, run, k, a)
+    let rooted = begun.add_roots(tables, run, a);
+    rooted.go_on(tables, run, a)
 }
 
 // Goes on from the finished run of an ask without its last query, with the roots of that query and no ambient roots.
-pub fn run_also(
-    file: &[u8],
-    names: &[u32],
-    recs: &[u32],
-    lists: &[u32],
-    run: &mut [u32],
-    k: Counts,
-    a: Asked,
-    before: Scan,
-) -> Scan
-    requires { Filled file.now names.now recs.now lists.now k × (a.end ≤ ask_room) × (a.first + 1 < a.end)
-        × ChainStands file.now names.now recs.now lists.now k (ask_of recs.now (before_last a)) run.old before }
-    ensures { WentOn file.now names.now recs.now lists.now k a
+pub fn run_also(file: &[u8], tables: &RecordTables, run: &mut [u32], a: Asked, before: Scan) -> Scan
+    requires { IsFilled file.now tables.now × (a.end ≤ ask_room) × (a.first + 1 < a.end)
+        × ChainStands file.now tables.now.names.now tables.now.recs.now tables.now.lists.now tables.now.k
+        (ask_of tables.now.recs.now (before_last a)) run.old before }
+    ensures { WentOn file.now tables.now.names.now tables.now.recs.now tables.now.lists.now tables.now.k a
         run.old before run.new result }
 {
     let end = a.end;
@@ -292,9 +208,11 @@ pub fn run_also(
         options: NO_AMBIENTS,
         groups: a.groups,
     };
-    let mut rested = before;
-    rested.from = 0;
-    rested.to = 0;
-    let rooted = rested.add_roots(recs, run, k, last);
-    rooted.go_on(names, recs, lists, run, k, a)
+    let rested = Scan {
+        from: 0,
+        to: 0,
+        ..before
+    };
+    let rooted = rested.add_roots(tables, run, last);
+    rooted.go_on(tables, run, a)
 }

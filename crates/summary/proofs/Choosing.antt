@@ -25,15 +25,17 @@ use Rattle.rules.specs.Choices.{refinement_kind, parts_kind, kinded, Within}
 use Rattle.rules.specs.declared.Choice.{Choice}
 use Rattle.rules.specs.declared.Choice.TheVariants as choice
 use Rattle.summary.specs.declared.Sorted.{Sorted}
-use Rattle.summary.specs.declared.Sorted.TheVariants as sorted
 use Rattle.summary.specs.Steps.{FilingBegun, trimmed_table, sorted_of, Kinds, kind_there, no_room, Sorts, SortsAs, ComesTo, kind_filed, entries_over, Tokens, Chooses}
 use Rattle.summary.specs.Writing.{token_table, file_refinement, file_choice}
 use Rattle.summary.proofs.Token.{token_same}
 use Rattle.summary.proofs.Sorting.{named_of, table_marked, tells_marked, files_sorts, nothing_sorts}
 use Rattle.summary.proofs.Writing.{files_sorts_as, nothing_as}
+use Rattle.std.specs.Prelude.{Option, Result}
+use Rattle.summary.specs.Steps.{kind_sorted}
+use Rattle.summary.specs.declared.Limit.{Limit}
 
 -- what filing a choice comes to, with every word
-abbrev pub ChoiceFiles : List ℕ → List ℕ → List ℕ → List ℕ → List ℕ → List ℕ → List ℕ → List ℕ → ℕ → ℕ → ℕ → ℕ → ℕ → Choice → Sorted → Type 0
+abbrev pub ChoiceFiles : List ℕ → List ℕ → List ℕ → List ℕ → List ℕ → List ℕ → List ℕ → List ℕ → ℕ → ℕ → ℕ → ℕ → ℕ → Choice → Result Sorted Limit → Type 0
 ChoiceFiles file names refs rows lists names' rows' lists' named used many mark at c r =
     Chooses file names refs rows lists names' rows' lists' named used many mark at c r
     × SortsAs (file_choice refs used many file named mark (filing names rows lists (mark + 1) at) c) names' rows' lists' mark at r
@@ -57,7 +59,7 @@ unfolding sum_ambient sum_triggers
 refinement_trimmed true sets = refl
 refinement_trimmed false sets = refl
 
-module _ {file names refs rows lists names' rows' lists' : List ℕ} {named used many mark at : ℕ} {r : Sorted}
+module _ {file names refs rows lists names' rows' lists' : List ℕ} {named used many mark at : ℕ} {r : Result Sorted Limit}
     (tables : Tables file names refs rows named used many) where
   -- a kind that holds names of the table is filed
   sorts_comes : (f : List Name → List Term → Kinded) → ((exclude : List Name) → (f exclude (terms_in file names refs rows used many)).trimmed ≡ [])
@@ -72,7 +74,7 @@ module _ {file names refs rows lists names' rows' lists' : List ℕ} {named used
       terms_named (name_of file names') (name_of file names) kept.name tables.term_table in
       go (rw q at (s.kinds exclude (name_of file names') d))
     where
-      go : {x : Sorted} → Kinds (name_of file names') named (f exclude (terms_of (name_of file names) refs rows used many)) at lists' x
+      go : {x : Result Sorted Limit} → Kinds (name_of file names') named (f exclude (terms_of (name_of file names) refs rows used many)) at lists' x
           → ComesTo file names names' lists' named at (f exclude (terms_of (name_of file names) refs rows used many)) x
       go (kind_there a b c h k) =
           let kept = table_marked tables.name_table s.marks.names_same in
@@ -103,7 +105,7 @@ module _ {file names refs rows lists names' rows' lists' : List ℕ} {named used
   }
 
   -- filing sets files the choice that gathers them
-  sets_chooses : {g : FilingState} {count : ℕ} {f : Filed} (s : List Name → List Term → List (List Name)) (c : Choice)
+  sets_chooses : {g : FilingState} {count : ℕ} {f : Option Filed} (s : List Name → List Term → List (List Name)) (c : Choice)
       → ((exclude : List Name) → kinded exclude (terms_in file names refs rows used many) (name_of file names) c
       ≡ sum_triggers (s exclude (terms_in file names refs rows used many)))
       → trimmed_table file names named c ≡ names → file_choice refs used many file named mark (filing names rows lists (mark + 1) at) c ≡ g
@@ -119,7 +121,7 @@ module _ {file names refs rows lists names' rows' lists' : List ℕ} {named used
 
   module _ {c : Choice} where
     -- one set
-    pub choose_one : {t count : ℕ} {f : Filed} → c ≡ choice.One t
+    pub choose_one : {t count : ℕ} {f : Option Filed} → c ≡ choice.One t
         → ((exclude : List Name) (name : ℕ → Name) → Named exclude name names named → Files name named
         (free_top_level_names exclude (terms_of name refs rows used many) t ∷ []) at lists' f)
         → EntriesFilled names rows lists names' rows' lists' (mark + 1) at f
@@ -131,7 +133,7 @@ module _ {file names refs rows lists names' rows' lists' : List ℕ} {named used
         (λ exclude. refl) refl refl k w x q)
 
     -- two sets
-    pub choose_two : {t u count : ℕ} {f : Filed} → c ≡ choice.Two t u
+    pub choose_two : {t u count : ℕ} {f : Option Filed} → c ≡ choice.Two t u
         → ((exclude : List Name) (name : ℕ → Name) → Named exclude name names named → Files name named
         (free_top_level_names exclude (terms_of name refs rows used many) t ∷ free_top_level_names exclude
         (terms_of name refs rows used many) u ∷ []) at lists' f)
@@ -145,7 +147,7 @@ module _ {file names refs rows lists names' rows' lists' : List ℕ} {named used
         (choice.Two t u) (λ exclude. refl) refl refl k w x q)
 
     -- the triggers of a term
-    pub choose_groups : {t count : ℕ} {f : Filed} → c ≡ choice.Groups t
+    pub choose_groups : {t count : ℕ} {f : Option Filed} → c ≡ choice.Groups t
         → ((exclude : List Name) (name : ℕ → Name) → Named exclude name names named → Files name named
         (triggers_of_term exclude (terms_of name refs rows used many) t) at lists' f)
         → EntriesFilled names rows lists names' rows' lists' (mark + 1) at f
@@ -178,7 +180,7 @@ module _ {file names refs rows lists names' rows' lists' : List ℕ} {named used
 
 -- a kind without triggers
 none_sorts : {names rows lists : List ℕ} {mark at : ℕ} (named : ℕ) → FilingBegun names rows lists mark at → (k : Kinded) → k.triggers ≡ []
-    → Sorts names rows lists names rows lists named mark at (λ exclude name. k) (sorted.Kind k.kind at named)
+    → Sorts names rows lists names rows lists named mark at (λ exclude name. k) (kind_sorted k.kind at named)
 none_sorts {names} {rows} {mark = mark} named b k e = nothing_sorts k.kind (λ exclude name. k) (λ exclude name d. (refl, e)) b.low
     (same_self 8192 2048 names) (same_self 12288 4096 rows) (fresh_later mark (mark + 1) (omega arith) b.fresh)
 
@@ -186,7 +188,7 @@ module _ {file names refs rows lists : List ℕ} {named used many mark at : ℕ}
     (b : FilingBegun names rows lists mark at) where
   -- no disjunct
   pub choose_nothing : c ≡ choice.Nothing → ChoiceFiles file names refs rows lists names rows lists named used many mark at c
-      (sorted.Kind (asum.Triggers 0) at named)
+      (kind_sorted (asum.Triggers 0) at named)
   unfolding kinded trimmed_table sum_triggers file_choice
   choose_nothing e = rw e (
     sorts_chooses tables (λ exclude terms. sum_triggers []) choice.Nothing (λ exclude. refl) refl (λ exclude. refl)
@@ -195,7 +197,7 @@ module _ {file names refs rows lists : List ℕ} {named used many mark at : ℕ}
   )
 
   -- a fact that is dropped
-  pub choose_drop : c ≡ choice.Drop → ChoiceFiles file names refs rows lists names rows lists named used many mark at c (sorted.Kind asum.Drop at named)
+  pub choose_drop : c ≡ choice.Drop → ChoiceFiles file names refs rows lists names rows lists named used many mark at c (kind_sorted asum.Drop at named)
   unfolding kinded trimmed_table sum_drop file_choice
   choose_drop e = rw e (
     sorts_chooses tables (λ exclude terms. sum_drop) choice.Drop (λ exclude. refl) refl (λ exclude. refl) (none_sorts named b sum_drop refl),
@@ -204,7 +206,7 @@ module _ {file names refs rows lists : List ℕ} {named used many mark at : ℕ}
 
   -- an ambient fact
   pub choose_ambient : c ≡ choice.Ambient → ChoiceFiles file names refs rows lists names rows lists named used many mark at c
-      (sorted.Kind (asum.Ambient false) at named)
+      (kind_sorted (asum.Ambient false) at named)
   unfolding kinded trimmed_table sum_ambient file_choice
   choose_ambient e = rw e (
     sorts_chooses tables (λ exclude terms. sum_ambient false) choice.Ambient (λ exclude. refl) refl (λ exclude. refl)
@@ -213,7 +215,7 @@ module _ {file names refs rows lists : List ℕ} {named used many mark at : ℕ}
   )
 
   -- a token
-  pub choose_token : {names' lists' : List ℕ} {n : ℕ} {r : Sorted} → c ≡ choice.Token n → Tokens file names lists names' lists' named n at r
+  pub choose_token : {names' lists' : List ℕ} {n : ℕ} {r : Result Sorted Limit} → c ≡ choice.Token n → Tokens file names lists names' lists' named n at r
       → ChoiceFiles file names refs rows lists names' rows lists' named used many mark at c r
   unfolding kinded trimmed_table file_choice
   choose_token {n = n} e s = rw e (

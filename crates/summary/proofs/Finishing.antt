@@ -24,8 +24,6 @@ use Rattle.terms.specs.Rows.{terms_of, Rows}
 use Rattle.terms.proofs.Table.{rows_named, terms_named}
 use Rattle.words.specs.Slices.{word_limit, SameBut}
 use Rattle.gather.specs.Sets.{row_mark_column, Fresh, Gathers, all_names, no_room as no_names, ended}
-use Rattle.gather.specs.declared.Walked.{Walked}
-use Rattle.gather.specs.declared.Walked.TheVariants as walks
 use Rattle.words.proofs.Slices.{same_then, same_wider}
 use Rattle.gather.proofs.Walking.{rows_marked}
 use Rattle.triggers.specs.Entries.{entries_base, entries_column_end, entry_number, before_first, disjuncts_of_words, disjuncts_of}
@@ -39,10 +37,7 @@ use Rattle.rules.specs.declared.Choice.{Choice}
 use Rattle.rules.specs.declared.Choice.TheVariants as choice
 use Rattle.summary.specs.declared.Limit.{Limit}
 use Rattle.summary.specs.declared.Sorted.{Sorted}
-use Rattle.summary.specs.declared.Sorted.TheVariants as sorted
 use Rattle.summary.specs.declared.Summary.{Summary}
-use Rattle.summary.specs.declared.Summarized.{Summarized}
-use Rattle.summary.specs.declared.Summarized.TheVariants as summarized
 use Rattle.summary.specs.Facts.{Asked, fact_kind, fact_choice, fact_names, names_then, fact_summary, limited, Lists, Slices}
 use Rattle.summary.specs.Steps.{FilingBegun, trimmed_table, sorted_end, Marks, FiledKind, ComesTo, kind_filed, names_over, entries_over, SortsAs, Chooses, finished, Finishes}
 use Rattle.summary.specs.Writing.{file_choice, file_fact, Written}
@@ -50,6 +45,8 @@ use Rattle.summary.proofs.Sorting.{named_of, table_marked, tells_marked}
 use Rattle.summary.proofs.Choosing.{ChoiceFiles, trimmed_same}
 use Rattle.summary.proofs.Answering.{over_none, done_one, over_names, over_entries, over_uses, within_limits, summary_is}
 use Rattle.summary.proofs.Writing.{kind_written, over_written}
+use Rattle.std.specs.Prelude.{Option, None, Some, Result, Ok, Err}
+use Rattle.summary.specs.Steps.{kind_sorted}
 
 -- ---- names that stay
 
@@ -97,7 +94,7 @@ unfolding name_of
 name_marked file same n l = rw (same.same_words n (λ a b. omega arith), same.same_words (2048 + n) (λ a b. omega arith)) refl
 
 -- what a choice comes to, by its answer
-pub chooses_is : {file names refs rows lists names' rows' lists' : List ℕ} {named used many mark at : ℕ} {chosen : Choice} {r r' : Sorted} → r ≡ r'
+pub chooses_is : {file names refs rows lists names' rows' lists' : List ℕ} {named used many mark at : ℕ} {chosen : Choice} {r r' : Result Sorted Limit} → r ≡ r'
     → ChoiceFiles file names refs rows lists names' rows' lists' named used many mark at chosen r
     → ChoiceFiles file names refs rows lists names' rows' lists' named used many mark at chosen r'
 chooses_is e c = rw e at c
@@ -156,18 +153,18 @@ kinded_count exclude terms name choice.Ambient e = cc
 -- ---- the promises
 
 -- the answer
-abbrev Answer : List ℕ → List ℕ → List ℕ → List ℕ → ℕ → ℕ → ℕ → ℕ → ℕ → ℕ → ℕ → ℕ → Summarized → Type 0
+abbrev Answer : List ℕ → List ℕ → List ℕ → List ℕ → ℕ → ℕ → ℕ → ℕ → ℕ → ℕ → ℕ → ℕ → Result Summary Limit → Type 0
 Answer file names refs rows named used many name t mark filed uses r =
     (exclude : List Name) → Excludes exclude file names named → r ≡ limited (fact_summary exclude file names refs rows named used many name t mark filed uses)
 
 -- the lists
-abbrev Listed : List ℕ → List ℕ → List ℕ → List ℕ → ℕ → ℕ → ℕ → ℕ → ℕ → List ℕ → List ℕ → List ℕ → ℕ → ℕ → Summarized → Type 0
+abbrev Listed : List ℕ → List ℕ → List ℕ → List ℕ → ℕ → ℕ → ℕ → ℕ → ℕ → List ℕ → List ℕ → List ℕ → ℕ → ℕ → Result Summary Limit → Type 0
 Listed file names refs rows named used many name t names' rows' lists' filed uses r =
-    (exclude : List Name) → Excludes exclude file names named → (s : Summary) → r ≡ summarized.Done s
+    (exclude : List Name) → Excludes exclude file names named → (s : Summary) → r ≡ Ok s
     → Lists exclude file names refs rows named used many name t names' rows' lists' filed uses s
 
 -- all four
-abbrev pub Promised : List ℕ → List ℕ → List ℕ → List ℕ → List ℕ → ℕ → ℕ → ℕ → ℕ → ℕ → ℕ → ℕ → ℕ → List ℕ → List ℕ → List ℕ → Summarized → Type 0
+abbrev pub Promised : List ℕ → List ℕ → List ℕ → List ℕ → List ℕ → ℕ → ℕ → ℕ → ℕ → ℕ → ℕ → ℕ → ℕ → List ℕ → List ℕ → List ℕ → Result Summary Limit → Type 0
 Promised file names refs rows lists named used many name t mark filed uses names' rows' lists' r =
     Answer file names refs rows named used many name t mark filed uses r
     × (Listed file names refs rows named used many name t names' rows' lists' filed uses r
@@ -192,7 +189,7 @@ module _ {file names refs rows lists : List ℕ} {named used many name t mark fi
   unfolding fact_kind
   made = choice.kind
 
-  module _ {names' rows' lists' : List ℕ} {r : Sorted} (chooses : Chooses file names refs rows lists names' rows' lists' named used many mark
+  module _ {names' rows' lists' : List ℕ} {r : Result Sorted Limit} (chooses : Chooses file names refs rows lists names' rows' lists' named used many mark
       (entries_base + filed) chosen r) where
     -- the fact's kind is filed, or a limit passed
     comes : (exclude : List Name) → Excludes exclude file names named
@@ -200,11 +197,11 @@ module _ {file names refs rows lists : List ℕ} {named used many name t mark fi
     comes exclude excludes = rw (made exclude) at (chooses.kinds exclude excludes)
 
   module _ {names' rows' lists' : List ℕ} {l : Limit} (chooses : Chooses file names refs rows lists names' rows' lists' named used many mark
-      (entries_base + filed) chosen (sorted.Over l))
+      (entries_base + filed) chosen (Err l))
       (filed_as : SortsAs (file_choice refs used many file named mark (filing names rows lists (mark + 1) (entries_base + filed)) chosen) names' rows' lists' mark
-      (entries_base + filed) (sorted.Over l)) where
+      (entries_base + filed) (Err l)) where
     -- a limit that filing passes
-    pub over_law : Promised file names refs rows lists named used many name t mark filed uses names' rows' lists' (summarized.Over l)
+    pub over_law : Promised file names refs rows lists named used many name t mark filed uses names' rows' lists' (Err l)
     unfolding names_then fact_summary sorted_end file_fact
     over_law = (
       λ exclude excludes. answer exclude (comes chooses exclude excludes),
@@ -218,14 +215,14 @@ module _ {file names refs rows lists : List ℕ} {named used many name t mark fi
     )
       where
         answer : {x : Limit} (exclude : List Name)
-            → ComesTo file names names' lists' named (entries_base + filed) (fact_kind exclude file names refs rows named used many name t) (sorted.Over x)
-            → summarized.Over x ≡ limited (fact_summary exclude file names refs rows named used many name t mark filed uses)
+            → ComesTo file names names' lists' named (entries_base + filed) (fact_kind exclude file names refs rows named used many name t) (Err x)
+            → Err x ≡ limited (fact_summary exclude file names refs rows named used many name t mark filed uses)
         answer exclude (names_over p) = over_names (fact_summary exclude file names refs rows named used many name t mark filed uses) p
         answer exclude (entries_over p q) = over_entries (fact_summary exclude file names refs rows named used many name t mark filed uses) p (omega arith)
 
         slices : {x : Limit} (exclude : List Name)
-            → ComesTo file names names' lists' named (entries_base + filed) (fact_kind exclude file names refs rows named used many name t) (sorted.Over x)
-            → Marks (trimmed_table file names named chosen) rows lists names' rows' lists' mark (entries_base + filed) (sorted.Over x)
+            → ComesTo file names names' lists' named (entries_base + filed) (fact_kind exclude file names refs rows named used many name t) (Err x)
+            → Marks (trimmed_table file names named chosen) rows lists names' rows' lists' mark (entries_base + filed) (Err x)
             → Slices names rows lists names' rows' lists' filed uses
         slices exclude (names_over p) m = record {
           name_words = names_past asked.tables.name_table chosen m.names_same;
@@ -241,13 +238,13 @@ module _ {file names refs rows lists : List ℕ} {named used many name t mark fi
         }
 
   module _ {names' rows' lists' : List ℕ} {a : AsumKind} {e total : ℕ}
-      (chooses : Chooses file names refs rows lists names' rows' lists' named used many mark (entries_base + filed) chosen (sorted.Kind a e total)) where
+      (chooses : Chooses file names refs rows lists names' rows' lists' named used many mark (entries_base + filed) chosen (kind_sorted a e total)) where
     -- the kind that was filed
     filed_there : (exclude : List Name) → Excludes exclude file names named
         → FiledKind file names names' lists' named (entries_base + filed) (fact_kind exclude file names refs rows named used many name t) a e total
     filed_there exclude excludes = go (comes chooses exclude excludes)
       where
-        go : {k : Kinded} → ComesTo file names names' lists' named (entries_base + filed) k (sorted.Kind a e total)
+        go : {k : Kinded} → ComesTo file names names' lists' named (entries_base + filed) k (kind_sorted a e total)
             → FiledKind file names names' lists' named (entries_base + filed) k a e total
         go (kind_filed k) = k
 
@@ -276,7 +273,7 @@ module _ {file names refs rows lists : List ℕ} {named used many name t mark fi
           rw chooses.marks.lists_same.same_length asked.room,
         )
 
-    module _ {names'' rows'' lists'' : List ℕ} {n : ℕ} {r : Summarized} (is : n ≡ mark + 1 + (e - (entries_base + filed)))
+    module _ {names'' rows'' lists'' : List ℕ} {n : ℕ} {r : Result Summary Limit} (is : n ≡ mark + 1 + (e - (entries_base + filed)))
         (finishes : Finishes names' refs rows' lists' names'' rows'' lists'' named total used many t a e n uses r) where
       -- the name table then
       kept_table : Kept file names' names'' total
@@ -329,7 +326,7 @@ module _ {file names refs rows lists : List ℕ} {named used many name t mark fi
           (λ i l k. s.lists_same.same_words i (λ x y. omega arith))
 
       -- the words of `lists` but the places of the free names and of the entries
-      kept_out : (x : Walked) → SameBut uses (ended most_uses x - uses) lists' lists'' → ended most_uses x ≤ most_uses
+      kept_out : (x : Option ℕ) → SameBut uses (ended most_uses x - uses) lists' lists'' → ended most_uses x ≤ most_uses
           → (i : ℕ) → (uses ≤ i → i < most_uses → ⊥) → (entries_base + filed ≤ i → i < entries_column_end → ⊥) → get_or lists'' i 0 ≡ get_or lists i 0
       unfolding sorted_end
       kept_out x s up i f g =
@@ -367,7 +364,7 @@ module _ {file names refs rows lists : List ℕ} {named used many name t mark fi
 
         -- the summary's lists
         kept_lists : {k : ℕ} → Gathers (name_of file names'') named (fact_names exclude file names refs rows named used many name t) uses most_uses lists''
-            (walks.Names k)
+            (Some k)
             → Lists exclude file names refs rows named used many name t names'' rows'' lists'' filed uses
             (record { kind = a; entries = e - entries_base; uses = k; named = total; mark = n + 1 })
         unfolding names_then
@@ -393,11 +390,11 @@ module _ {file names refs rows lists : List ℕ} {named used many name t mark fi
             }
 
         -- the answer and the lists, by whether there is room for the free names
-        kept_answer : (x : Walked) → Gathers (name_of file names'') named (fact_names exclude file names refs rows named used many name t) uses most_uses lists'' x
+        kept_answer : (x : Option ℕ) → Gathers (name_of file names'') named (fact_names exclude file names refs rows named used many name t) uses most_uses lists'' x
             → (finished a e total n x ≡ limited (fact_summary exclude file names refs rows named used many name t mark filed uses))
-            × ((s : Summary) → finished a e total n x ≡ summarized.Done s → Lists exclude file names refs rows named used many name t names'' rows'' lists'' filed uses s)
+            × ((s : Summary) → finished a e total n x ≡ Ok s → Lists exclude file names refs rows named used many name t names'' rows'' lists'' filed uses s)
         unfolding fact_summary
-        kept_answer (walks.Names k) (all_names p q fits small) =
+        kept_answer (Some k) (all_names p q fits small) =
             let (lo, hi) = filed_ends in
             let there = filed_there exclude excludes in
             let ends = there.ends in
@@ -406,7 +403,7 @@ module _ {file names refs rows lists : List ℕ} {named used many name t mark fi
                   ∙ ap limited (summary_is s there.kind (omega arith) (omega arith) named_then (omega arith)),
               λ s' h. rw (← done_one h) (kept_lists (all_names p q fits small)),
             )
-        kept_answer walks.Full (no_names p f) =
+        kept_answer None (no_names p f) =
             let there = filed_there exclude excludes in
             let ends = there.ends in
             let high = there.high in (
@@ -417,12 +414,12 @@ module _ {file names refs rows lists : List ℕ} {named used many name t mark fi
 
         -- by the answer
         kept_both : (r ≡ limited (fact_summary exclude file names refs rows named used many name t mark filed uses))
-            × ((s : Summary) → r ≡ summarized.Done s → Lists exclude file names refs rows named used many name t names'' rows'' lists'' filed uses s)
+            × ((s : Summary) → r ≡ Ok s → Lists exclude file names refs rows named used many name t names'' rows'' lists'' filed uses s)
         kept_both = rw finishes.answer (kept_answer finishes.walked (gathered_names exclude excludes))
 
       -- a fact whose kind was filed
       pub finish_law : SortsAs (file_choice refs used many file named mark
-          (filing names rows lists (mark + 1) (entries_base + filed)) chosen) names' rows' lists' mark (entries_base + filed) (sorted.Kind a e total)
+          (filing names rows lists (mark + 1) (entries_base + filed)) chosen) names' rows' lists' mark (entries_base + filed) (kind_sorted a e total)
           → Promised file names refs rows lists named used many name t mark filed uses names'' rows'' lists'' r
       unfolding file_fact
       finish_law filed_as = (

@@ -25,16 +25,16 @@ use Rattle.rules.specs.Choices.{refinement_kind, parts_kind}
 use Rattle.triggers.specs.Entries.{disjuncts_of, disjuncts_of_words, Files, all_sets, no_room as no_sets, EntriesFilled, filed_end, Opened}
 use Rattle.triggers.specs.Filings.{filing, file_groups, file_parts, ask_empty, AsksAs, FilesAs}
 use Rattle.triggers.specs.declared.Filed.{Filed}
-use Rattle.triggers.specs.declared.Filed.TheVariants as files
 use Rattle.triggers.proofs.Marked.{named_marked, terms_marked}
 use Rattle.gather.proofs.Fresh.{fresh_later}
 use Rattle.triggers.proofs.Disjuncts.{no_entries}
 use Rattle.summary.specs.declared.Limit.{Limit}
 use Rattle.summary.specs.declared.Sorted.{Sorted}
-use Rattle.summary.specs.declared.Sorted.TheVariants as sorted
 use Rattle.summary.specs.Steps.{FilingBegun, sorted_of, sorted_end, Marks, Kinds, kind_there, no_room, Sorts, SortsAs}
 use Rattle.summary.specs.Writing.{file_refinement}
 use Rattle.summary.proofs.Writing.{files_sorts_as, nothing_as}
+use Rattle.std.specs.Prelude.{Option, None, Some, Result, Err}
+use Rattle.summary.specs.Steps.{kind_sorted}
 
 -- ---- names
 
@@ -83,32 +83,34 @@ begun_then b (n, s, f) q = record {
 -- ---- kinds
 
 -- a kind of an answer
-kind_end : {a b : AsumKind} {e f m n : ℕ} → sorted.Kind a e m ≡ sorted.Kind b f n → e ≡ f
-kind_end p = cc
+kind_end : {a b : AsumKind} {e f m n : ℕ} → kind_sorted a e m ≡ kind_sorted b f n → e ≡ f
+kind_end {a} {b} {e} {f} {m} {n} p =
+    let same : ◌≡◌ {A = Sorted} (record { kind = a; end = e; total = m }) (record { kind = b; end = f; total = n }) = cc in
+    ap (λ s. s.end) same
 
 -- a limit is no kind
-over_none : {l : Limit} {a : AsumKind} {e n : ℕ} → sorted.Over l ≡ sorted.Kind a e n → ⊥
+over_none : {l : Limit} {a : AsumKind} {e n : ℕ} → Err l ≡ kind_sorted a e n → ⊥
 over_none p = let z : ◌≡◌ {A = ℕ} 0 1 = cc in omega arith
 
 -- filed disjuncts are a kind of triggers
-files_kinds : {name : ℕ → Name} {named at : ℕ} {s : List (List Name)} {lists : List ℕ} {f : Filed} → Files name named s at lists f
+files_kinds : {name : ℕ → Name} {named at : ℕ} {s : List (List Name)} {lists : List ℕ} {f : Option Filed} → Files name named s at lists f
     → Kinds name named (sum_triggers s) at lists (sorted_of named f)
 unfolding sum_triggers
 files_kinds (all_sets a b c d e) = kind_there (ap asum.Triggers b) a c d e
 files_kinds (no_sets p) = no_room p
 
 -- the slices after filing them
-files_marks : {names rows lists names' rows' lists' : List ℕ} {mark at : ℕ} (named : ℕ) (f : Filed) → EntriesFilled names rows lists names' rows' lists' (mark + 1) at f
+files_marks : {names rows lists names' rows' lists' : List ℕ} {mark at : ℕ} (named : ℕ) (f : Option Filed) → EntriesFilled names rows lists names' rows' lists' (mark + 1) at f
     → Marks names rows lists names' rows' lists' mark at (sorted_of named f)
 unfolding sorted_end filed_end
-files_marks named (files.Sets n e) w = record {
+files_marks named (Some f) w = record {
   names_same = w.names_same;
   rows_same = w.rows_same;
   lists_same = w.lists_same;
   fresh = λ a k total q. rw (←
-      (kind_end q)) (w.fresh n e refl);
+      (kind_end q)) (w.fresh f.sets f.end refl);
 }
-files_marks named files.Full w = record {
+files_marks named None w = record {
   names_same = w.names_same;
   rows_same = w.rows_same;
   lists_same = w.lists_same;
@@ -116,14 +118,14 @@ files_marks named files.Full w = record {
 }
 
 -- filing disjuncts files a kind
-pub files_sorts : {names rows lists names' rows' lists' : List ℕ} {named mark at : ℕ} {f : Filed} {r : Sorted} (s : List Name → (ℕ → Name) → List (List Name))
+pub files_sorts : {names rows lists names' rows' lists' : List ℕ} {named mark at : ℕ} {f : Option Filed} {r : Result Sorted Limit} (s : List Name → (ℕ → Name) → List (List Name))
     → ((exclude : List Name) (name : ℕ → Name) → Named exclude name names named → Files name named (s exclude name) at lists' f)
     → EntriesFilled names rows lists names' rows' lists' (mark + 1) at f
     → r ≡ sorted_of named f → Sorts names rows lists names' rows' lists' named mark at (λ exclude name. sum_triggers (s exclude name)) r
 files_sorts {named = named} {f = f} s k w q = rw q (record { kinds = λ exclude name d. files_kinds (k exclude name d); marks = files_marks named f w })
 
 -- the same kinds, said in another way
-pub sorts_as : {names rows lists names' rows' lists' : List ℕ} {named mark at : ℕ} {k l : List Name → (ℕ → Name) → Kinded} {r : Sorted}
+pub sorts_as : {names rows lists names' rows' lists' : List ℕ} {named mark at : ℕ} {k l : List Name → (ℕ → Name) → Kinded} {r : Result Sorted Limit}
     → ((exclude : List Name) (name : ℕ → Name) → Named exclude name names named → k exclude name ≡ l exclude name)
     → Sorts names rows lists names' rows' lists' named mark at k r → Sorts names rows lists names' rows' lists' named mark at l r
 sorts_as e s = record { kinds = λ exclude name d. rw (e exclude name d) at (s.kinds exclude name d); marks = s.marks }
@@ -132,7 +134,7 @@ sorts_as e s = record { kinds = λ exclude name d. rw (e exclude name d) at (s.k
 pub nothing_sorts : {names rows lists names' rows' : List ℕ} {named mark at : ℕ} (a : AsumKind) (k : List Name → (ℕ → Name) → Kinded)
     → ((exclude : List Name) (name : ℕ → Name) → Named exclude name names named → (a ≡ (k exclude name).kind) × ((k exclude name).triggers ≡ [])) → at ≤ 8192
     → SameBut 8192 2048 names names' → SameBut 12288 4096 rows rows' → Fresh names' rows' (mark + 1)
-    → Sorts names rows lists names' rows' lists named mark at k (sorted.Kind a at named)
+    → Sorts names rows lists names' rows' lists named mark at k (kind_sorted a at named)
 unfolding sorted_end disjuncts_of disjuncts_of_words entries sum
 nothing_sorts {lists = lists} {named = named} {mark} {at} a k e low n s f = record {
   kinds = λ exclude name d. kind_there {e = at} (e exclude name d).0
@@ -149,7 +151,7 @@ nothing_sorts {lists = lists} {named = named} {mark} {at} a k e low n s f = reco
 }
 
 -- the slices after a look at the tables and filing
-marks_after : {names rows lists names₁ rows₁ lists₁ names₂ rows₂ lists₂ : List ℕ} {mark at : ℕ} {r : Sorted} → SameBut 8192 2048 names names₁
+marks_after : {names rows lists names₁ rows₁ lists₁ names₂ rows₂ lists₂ : List ℕ} {mark at : ℕ} {r : Result Sorted Limit} → SameBut 8192 2048 names names₁
     → SameBut 12288 4096 rows rows₁ → lists₁ ≡ lists
     → Marks names₁ rows₁ lists₁ names₂ rows₂ lists₂ mark at r → Marks names rows lists names₂ rows₂ lists₂ mark at r
 marks_after n s q m = record {
@@ -168,8 +170,8 @@ module _ {names rows lists names₁ rows₁ lists₁ refs : List ℕ} {named use
     (same : AsksAs (ask_empty refs used many names rows t) names rows lists names₁ rows₁ lists₁ mark b) where
   -- a payload that is empty is ambient
   pub refinement_empty : b ≡ true → at ≤ 8192 → Sorts names rows lists names₁ rows₁ lists₁ named mark at (λ exclude name. refinement_kind exclude
-      (terms_of name refs rows used many) t) (sorted.Kind (asum.Ambient true) at named)
-      × SortsAs (file_refinement refs used many mark (filing names rows lists (mark + 1) at) t) names₁ rows₁ lists₁ mark at (sorted.Kind
+      (terms_of name refs rows used many) t) (kind_sorted (asum.Ambient true) at named)
+      × SortsAs (file_refinement refs used many mark (filing names rows lists (mark + 1) at) t) names₁ rows₁ lists₁ mark at (kind_sorted
       (asum.Ambient true) at named)
   unfolding refinement_kind sum_ambient file_refinement
   refinement_empty e low = (
@@ -179,7 +181,7 @@ module _ {names rows lists names₁ rows₁ lists₁ refs : List ℕ} {named use
   )
 
   -- another has its triggers
-  pub refinement_more : {names₂ rows₂ lists₂ : List ℕ} {count : ℕ} {f : Filed} {r : Sorted} → b ≡ false
+  pub refinement_more : {names₂ rows₂ lists₂ : List ℕ} {count : ℕ} {f : Option Filed} {r : Result Sorted Limit} → b ≡ false
       → ((exclude : List Name) (name : ℕ → Name) → Named exclude name names₁ named → Files name named
       (triggers_of_term exclude (terms_of name refs rows₁ used many) t) at lists₂ f)
       → EntriesFilled names₁ rows₁ lists₁ names₂ rows₂ lists₂ (mark + 1) at f
@@ -202,7 +204,7 @@ module _ {names rows lists names₁ rows₁ lists₁ refs : List ℕ} {named use
 -- ---- the parts of an `and`
 
 -- the triggers of the terms that a row names
-pub parts_sorts : {names rows lists names' rows' lists' refs : List ℕ} {named used many mark at a e count : ℕ} {f : Filed} {r : Sorted} (t : ℕ)
+pub parts_sorts : {names rows lists names' rows' lists' refs : List ℕ} {named used many mark at a e count : ℕ} {f : Option Filed} {r : Result Sorted Limit} (t : ℕ)
     → Rows refs rows used many named → t < many
     → a ≡ row_start rows t → e ≡ row_end rows used many t
     → ((exclude : List Name) (name : ℕ → Name) → Named exclude name names named → Files name named

@@ -5,13 +5,11 @@ use mathlib.Core.Path.{◌≡◌, refl, sym, ap, ◌∙◌}
 use mathlib.Core.Bool.{Bool, true, false, cond}
 use mathlib.Core.List.Memᴰ
 use mathlib.Core.List.{List, [], ◌∷◌, ◌++◌}
-use mathlib.Core.Option.{none, some}
+use Rattle.std.specs.Prelude.{None as none, Some as some, Result, Ok, Err}
 use lib.ListN.{length, get_or, take, drop, set, length-take, length-drop, length-append}
 use lib.Dec.{ltb, not_T}
 use borrow.Author.Tests.{ltb-true, le-ltb, lt-ltb}
 use Rattle.names.specs.Table.{Table, Tells, name_of, table_names, look_up, spell_answer, spell_table, entered}
-use Rattle.names.specs.declared.Found.{Found}
-use Rattle.names.specs.declared.Found.TheVariants as found
 use Rattle.names.specs.declared.Spelled.{Spelled}
 use Rattle.names.specs.declared.Spelled.TheVariants as spelled
 use Rattle.names.proofs.Laws.{found_missing, names_length}
@@ -37,9 +35,10 @@ use Rattle.triggers.specs.Filings.{filing}
 use Rattle.summary.specs.declared.Limit.{Limit}
 use Rattle.summary.specs.declared.Limit.TheVariants as limit
 use Rattle.summary.specs.declared.Sorted.{Sorted}
-use Rattle.summary.specs.declared.Sorted.TheVariants as sorted
 use Rattle.summary.specs.Steps.{sorted_end, ComesTo, kind_filed, names_over, entries_over, Two, both, over, Tokens, SortsAs, as_kind, as_over}
 use Rattle.summary.specs.Writing.{trimmed_end, trimmed_found, token_table, spelled_number, token_words, stopped, file_words, file_token}
+use Rattle.std.specs.Prelude.{Result, Err}
+use Rattle.summary.specs.Steps.{kind_sorted}
 
 -- spelling a name changes no word from 8,192 on
 spell_same : {file names : List ℕ} {named : ℕ} → Table file names named → (a e : ℕ)
@@ -47,9 +46,9 @@ spell_same : {file names : List ℕ} {named : ℕ} → Table file names named �
 unfolding spell_table
 spell_same {file} {names} {named} table a e = go (look_up (table_names file names named) (part file a e)) refl
   where
-    go : (f : Found) → look_up (table_names file names named) (part file a e) ≡ f → SameBut 0 8192 names (spell_table file names named a e f)
-    go (found.At n) q = same_self 0 8192 names
-    go (found.Missing rank) q = choose (ltb named 2048) refl
+    go : (f : Result ℕ ℕ) → look_up (table_names file names named) (part file a e) ≡ f → SameBut 0 8192 names (spell_table file names named a e f)
+    go (Ok n) q = same_self 0 8192 names
+    go (Err rank) q = choose (ltb named 2048) refl
       where
         choose : (t : Bool) → ltb named 2048 ≡ t → SameBut 0 8192 names (cond t (entered file names named a e rank) names)
         choose true t =
@@ -155,7 +154,7 @@ module _ {file names : List ℕ} {named n x y : ℕ} (table : Table file names n
   token_stops : {names' lists lists' : List ℕ} {at : ℕ} {w : Limit} (rows : List ℕ) (mark : ℕ) → names' ≡ token_table file names named n → lists' ≡ lists
       → file_words (filing (token_table file names named n) rows lists (mark + 1) at) (token_words file names named n)
       ≡ stopped (filing (token_table file names named n) rows lists (mark + 1) at)
-      → SortsAs (file_token file named (filing names rows lists (mark + 1) at) n) names' rows lists' mark at (sorted.Over w)
+      → SortsAs (file_token file named (filing names rows lists (mark + 1) at) n) names' rows lists' mark at (Err w)
   unfolding file_token stopped
   token_stops rows mark e o s = as_over (rw s refl) (rw s e) (rw s refl) (rw s o)
 
@@ -180,7 +179,7 @@ module _ {file names : List ℕ} {named n x y : ℕ} (table : Table file names n
     token_slice e = rw (yes, ← p, ← q) e
 
     -- a token and the shorter name, filed
-    token_two : {names' lists lists' : List ℕ} {total m at : ℕ} {r : Sorted} → Table file names' total
+    token_two : {names' lists lists' : List ℕ} {total m at : ℕ} {r : Result Sorted Limit} → Table file names' total
         → table_names file names' total ≡ spell (table_names file names named) (part file x (x + y - 4))
         → named ≤ total → ((k : ℕ) → k < named → name_of file names' k ≡ name_of file names k)
         → Tells file names names' named total → name_of file names' m ≡ part file x (x + y - 4) → m < total
@@ -214,7 +213,7 @@ module _ {file names : List ℕ} {named n x y : ℕ} (table : Table file names n
         (entries_over (rw (← token_short, ← spelled, names_length file names' total) table'.few) past)
 
     -- what it does to the slice
-    token_out : {lists lists' : List ℕ} {total m at : ℕ} {r : Sorted} → Two lists lists' total n m at r → SameBut at (sorted_end at r - at) lists lists'
+    token_out : {lists lists' : List ℕ} {total m at : ℕ} {r : Result Sorted Limit} → Two lists lists' total n m at r → SameBut at (sorted_end at r - at) lists lists'
     unfolding sorted_end
     token_out {lists} {m = m} {at} (both fits e) =
         rw e (same_then (same_set at (at + 2 - at) lists at (n + 4096) (omega arith) (omega arith))
@@ -228,7 +227,7 @@ module _ {file names : List ℕ} {named n x y : ℕ} (table : Table file names n
     token_entries e = rw (yes, ← p, ← q, ← e) refl
 
     -- filing a token and the shorter name writes the words of `file_token`
-    token_two_as : {names' lists lists' : List ℕ} {total m at : ℕ} {r : Sorted} → names' ≡ token_table file names named n
+    token_two_as : {names' lists lists' : List ℕ} {total m at : ℕ} {r : Result Sorted Limit} → names' ≡ token_table file names named n
         → token_words file names named n ≡ some ((n + 4096) ∷ (m + 4096) ∷ []) → Two lists lists' total n m at r
         → (rows : List ℕ) (mark : ℕ) → SortsAs (file_token file named (filing names rows lists (mark + 1) at) n) names' rows lists' mark at r
     unfolding file_token file_words put
@@ -252,7 +251,7 @@ module _ {file names : List ℕ} {named n x y : ℕ} (table : Table file names n
       token_new_small e = let k = spelled_new token_spelled e in omega (arith, k.number, k.few)
 
       -- the shorter name was known
-      pub token_known : {lists lists' : List ℕ} {m at : ℕ} {r : Sorted} → s ≡ spelled.Known m → 16384 ≤ length lists → Two lists lists' named n m at r
+      pub token_known : {lists lists' : List ℕ} {m at : ℕ} {r : Result Sorted Limit} → s ≡ spelled.Known m → 16384 ≤ length lists → Two lists lists' named n m at r
           → Tokens file names lists names' lists' named n at r
       unfolding spelled_number
       token_known e room two =
@@ -265,7 +264,7 @@ module _ {file names : List ℕ} {named n x y : ℕ} (table : Table file names n
           }
 
       -- it is new
-      pub token_new : {lists lists' : List ℕ} {m at : ℕ} {r : Sorted} → s ≡ spelled.New m → 16384 ≤ length lists → Two lists lists' (named + 1) n m at r
+      pub token_new : {lists lists' : List ℕ} {m at : ℕ} {r : Result Sorted Limit} → s ≡ spelled.New m → 16384 ≤ length lists → Two lists lists' (named + 1) n m at r
           → Tokens file names lists names' lists' named n at r
       unfolding spelled_number
       token_new e room two =
@@ -284,7 +283,7 @@ module _ {file names : List ℕ} {named n x y : ℕ} (table : Table file names n
           }
 
       -- there is no room for it
-      pub token_full : {lists : List ℕ} {at : ℕ} → s ≡ spelled.Full → Tokens file names lists names' lists named n at (sorted.Over limit.Names)
+      pub token_full : {lists : List ℕ} {at : ℕ} → s ≡ spelled.Full → Tokens file names lists names' lists named n at (Err limit.Names)
       unfolding sorted_end fold_left spell spelled_number file_words
       token_full {lists} {at} e =
           let k = spelled_full token_spelled e in
@@ -317,7 +316,7 @@ module _ {file names : List ℕ} {named n x y : ℕ} (table : Table file names n
 
     -- a token alone, filed
     pub token_one : {lists : List ℕ} {at : ℕ} → at < 8192 → 16384 ≤ length lists
-        → Tokens file names lists names (set lists at (n + 4096)) named n at (sorted.Kind (asum.Triggers 1) (at + 1) named)
+        → Tokens file names lists names (set lists at (n + 4096)) named n at (kind_sorted (asum.Triggers 1) (at + 1) named)
     unfolding sorted_end fold_left entries sum sum_triggers file_token file_words put
     token_one {lists} {at} h room =
         let few = table.few in
@@ -343,7 +342,7 @@ module _ {file names : List ℕ} {named n x y : ℕ} (table : Table file names n
         }
 
     -- there is no room for it
-    pub token_over : {lists : List ℕ} {at : ℕ} → 8192 ≤ at → Tokens file names lists names lists named n at (sorted.Over limit.Entries)
+    pub token_over : {lists : List ℕ} {at : ℕ} → 8192 ≤ at → Tokens file names lists names lists named n at (Err limit.Entries)
     unfolding sorted_end fold_left entries sum sum_triggers file_words
     token_over {lists} {at} h = record {
       name_words = token_kept;

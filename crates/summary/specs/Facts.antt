@@ -1,6 +1,6 @@
 -- The summary of a fact in the lent slices: its trigger entries from word `entries_base` of `lists` on, behind those of the facts
 -- before it; its free names from word 0 on, behind theirs.
-use Rattle.std.specs.Prelude.{ℕ, ◌+◌, ◌≤◌, ◌<◌, ◌≡◌, cond, List, map, length, get_or, ltb}
+use Rattle.std.specs.Prelude.{ℕ, ◌+◌, ◌≤◌, ◌<◌, ◌≡◌, cond, List, map, length, get_or, ltb, Result, Ok, Err}
 use Rattle.model.specs.Lists.{fold_left, part}
 use Rattle.model.specs.Names.{Name, from_list}
 use Rattle.model.specs.Reading.{most_names, most_terms, most_entries, most_uses, spell}
@@ -14,10 +14,9 @@ use Rattle.rules.specs.Views.{Tables, terms_in}
 use Rattle.rules.specs.Choices.{kind_choice}
 use Rattle.rules.specs.declared.Choice.{Choice}
 use Rattle.triggers.specs.Entries.{entries_base, entries_column_end, disjuncts_of, Entries}
+use Rattle.summary.specs.declared.Limit.{Limit}
 use Rattle.summary.specs.declared.Limit.TheVariants as limit
 use Rattle.summary.specs.declared.Summary.{Summary}
-use Rattle.summary.specs.declared.Summarized.{Summarized}
-use Rattle.summary.specs.declared.Summarized.TheVariants as summarized
 
 -- what summarising a fact asks: its name and term are of the tables, the marks there are below the next one and there are marks
 -- left, the lists so far are within their limits, and `lists` has room for them
@@ -79,11 +78,11 @@ module _ (exclude : List Name) (file names refs rows : List ℕ) (named used man
     pub fresh : Fresh names' rows' s.mark
 
 -- a summary, or the first limit that it passes
-unfoldable pub limited : Summary → Summarized
+unfoldable pub limited : Summary → Result Summary Limit
 limited s =
-    cond (ltb most_names s.named) (summarized.Over limit.Names)
-    (cond (ltb most_entries s.entries) (summarized.Over limit.Entries)
-    (cond (ltb most_uses s.uses) (summarized.Over limit.Uses) (summarized.Done s)))
+    cond (ltb most_names s.named) (Err limit.Names)
+    (cond (ltb most_entries s.entries) (Err limit.Entries)
+    (cond (ltb most_uses s.uses) (Err limit.Uses) (Ok s)))
 
 -- what of the slices may change: of the names the columns of the table and the marks, of the rows the marks, of `lists` the room
 -- for uses and for entries behind those of the facts before

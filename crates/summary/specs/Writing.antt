@@ -1,11 +1,9 @@
 -- Every word of the slices after summarising a fact: its disjuncts filed as its rule chooses, then its free names.
-use Rattle.std.specs.Prelude.{ℕ, ◌+◌, ◌-◌, ◌≡◌, true, cond, List, [], ◌∷◌, length, ltb}
-use Rattle.std.proofs.Math.Option.{Option, none, some}
+use Rattle.std.specs.Prelude.{ℕ, ◌+◌, ◌-◌, ◌≡◌, true, cond, List, [], ◌∷◌, length, ltb, Option, None as none, Some as some, Result}
 use Rattle.model.specs.Lists.{◌>>=◌, part}
 use Rattle.model.specs.Names.{bytes, ends_with}
 use Rattle.model.specs.Reading.{most_uses}
 use Rattle.names.specs.Table.{name_start, name_length, name_of, table_names, look_up, spell_answer, spell_table}
-use Rattle.names.specs.declared.Found.{Found}
 use Rattle.names.specs.declared.Spelled.{Spelled}
 use Rattle.names.specs.declared.Spelled.TheVariants as spelled
 use Rattle.terms.specs.Rows.{row_start, row_end, terms_of_words}
@@ -22,7 +20,7 @@ abbrev pub trimmed_end : List ℕ → ℕ → ℕ
 trimmed_end names n = name_start names n + name_length names n - 4
 
 -- what looking that name up finds
-abbrev pub trimmed_found : List ℕ → List ℕ → ℕ → ℕ → Found
+abbrev pub trimmed_found : List ℕ → List ℕ → ℕ → ℕ → Result ℕ ℕ
 trimmed_found file names named n = look_up (table_names file names named) (part file (name_start names n) (trimmed_end names n))
 
 -- the slice of names with the name that a token ending in @tok trims to

@@ -1,6 +1,6 @@
 #![tactic(auto)]
 
-ghost use Rattle.std.specs.Prelude.{◌+◌, ◌≤◌, ◌<◌, ◌≡◌, List, length};
+ghost use Rattle.std.specs.Prelude.{◌+◌, ◌≤◌, ◌<◌, ◌≡◌, List, length, Ok};
 ghost use Rattle.model.specs.Lists.{part};
 ghost use Rattle.model.specs.Names.{Name};
 ghost use Rattle.model.specs.Reading.{most_names, most_uses};
@@ -17,10 +17,10 @@ ghost use Rattle.summary.specs.Facts.{Asked, fact_summary, limited, Lists, Slice
 ghost use Rattle.summary.specs.Steps.{FilingBegun, Sorts, SortsAs, Two, Tokens, Chooses, Finishes, sorted_of};
 ghost use Rattle.summary.specs.Writing.{file_refinement, file_choice, file_fact, Written};
 
-use gather::Walked;
 use model::AsumKind;
 use names::Spelled;
 use rules::Choice;
+use rules::tables::TermTables;
 use triggers::Filed;
 
 // The limits that a fact may pass, in the order in which they are tried: names, trigger entries, name uses.
@@ -31,11 +31,12 @@ pub enum Limit {
     Uses,
 }
 
-// The kind of a fact, where its trigger entries end, and how many names the table has; or the limit passed.
+// The kind of a fact, where its trigger entries end, and how many names the table has.
 #[derive(Clone, Copy)]
-enum Sorted {
-    Kind(AsumKind, usize, usize),
-    Over(Limit),
+struct Sorted {
+    kind: AsumKind,
+    end: usize,
+    total: usize,
 }
 
 // A fact's summary. Its trigger entries and its free names stand in the lent slice: where each of these lists ends, counted
@@ -49,24 +50,24 @@ pub struct Summary {
     pub mark: usize,
 }
 
-// What summarising a fact comes to: its summary, or the limit passed.
-#[derive(Clone, Copy)]
-pub enum Summarized {
-    Done(Summary),
-    Over(Limit),
-}
+// The slices that are written stay parameters here: as fields of one struct each that a function leaves alone wants a clause of
+// its own.
 
 // Files two names as two disjuncts.
-fn put_two(lists: &mut [u32], named: usize, n: usize, m: usize, at: usize) -> Sorted
+fn put_two(lists: &mut [u32], named: usize, n: usize, m: usize, at: usize) -> Result<Sorted, Limit>
     requires { (n < most_names) × (m < most_names) × (at ≤ entries_column_end) × (working_words ≤ length lists.old) }
     ensures { Two lists.old lists.new named n m at result }
 {
     if triggers::ENTRIES_END <= at + 1 {
-        return Sorted::Over(Limit::Entries);
+        return Err(Limit::Entries);
     }
     lists[at] = (n + triggers::LAST) as u32;
     lists[at + 1] = (m + triggers::LAST) as u32;
-    Sorted::Kind(AsumKind::Triggers(2), at + 2, named)
+    Ok(Sorted {
+        kind: AsumKind::Triggers(2),
+        end: at + 2,
+        total: named,
+    })
 }
 
 // Files the name of a token as a disjunct; where it ends in @tok, the name without it as another, entered in the table.
@@ -77,7 +78,7 @@ fn file_token(
     named: usize,
     n: usize,
     at: usize,
-) -> Sorted
+) -> Result<Sorted, Limit>
     requires { Table file.now names.old named × (n < named) × (at ≤ entries_column_end) × (working_words ≤ length lists.old) }
     ensures { Tokens file.now names.old lists.old names.new lists.new
         named n at result }
@@ -86,26 +87,32 @@ fn file_token(
     let e = a + words::at(names, names::LENGTH + n);
     if !text::ends_with(file, a, e, b"@tok") {
         if triggers::ENTRIES_END <= at {
-            return Sorted::Over(Limit::Entries);
+            return Err(Limit::Entries);
         }
         lists[at] = (n + triggers::LAST) as u32;
-        return Sorted::Kind(AsumKind::Triggers(1), at + 1, named);
+        return Ok(Sorted {
+            kind: AsumKind::Triggers(1),
+            end: at + 1,
+            total: named,
+        });
     }
     match names::spell(file, names, named, a, e - 4) {
         Spelled::Known(m) => put_two(lists, named, n, m, at),
         Spelled::New(m) => put_two(lists, named + 1, n, m, at),
-        Spelled::Full => Sorted::Over(Limit::Names),
+        Spelled::Full => Err(Limit::Names),
     }
 }
 
 // Filed disjuncts as a kind.
-fn filed(f: Filed, named: usize) -> Sorted
+fn filed(f: Option<Filed>, named: usize) -> Result<Sorted, Limit>
     ensures { result ≡ sorted_of named f }
 {
-    match f {
-        Filed::Sets(n, end) => Sorted::Kind(AsumKind::Triggers(n), end, named),
-        Filed::Full => Sorted::Over(Limit::Entries),
-    }
+    let f = f.ok_or(Limit::Entries)?;
+    Ok(Sorted {
+        kind: AsumKind::Triggers(f.sets),
+        end: f.end,
+        total: named,
+    })
 }
 
 // The triggers of a refinement's payload; without any, or with one empty set, the fact is an ambient root.
@@ -120,7 +127,7 @@ fn file_refinement(
     t: usize,
     mark: usize,
     at: usize,
-) -> Sorted
+) -> Result<Sorted, Limit>
     requires { Rows refs.now rows.old used many named × FilingBegun names.old rows.old lists.old mark at × (t < many) }
     ensures kinds { Sorts names.old rows.old lists.old names.new
         rows.new lists.new named mark at
@@ -130,7 +137,11 @@ fn file_refinement(
         rows.new lists.new mark at result }
 {
     if triggers::is_empty(names, refs, rows, lists, named, used, many, t, mark, at) {
-        return Sorted::Kind(AsumKind::Ambient(true), at, named);
+        return Ok(Sorted {
+            kind: AsumKind::Ambient(true),
+            end: at,
+            total: named,
+        });
     }
     filed(
         triggers::triggers_of_term(names, refs, rows, lists, named, used, many, t, mark + 1, at),
@@ -138,7 +149,7 @@ fn file_refinement(
     )
 }
 
-// The triggers of each part of an `and`.
+// The triggers of each part of an `and`. Apart from a refinement's, since each has the kind of its own choice.
 fn file_parts(
     names: &mut [u32],
     refs: &[u32],
@@ -150,7 +161,7 @@ fn file_parts(
     t: usize,
     mark: usize,
     at: usize,
-) -> Sorted
+) -> Result<Sorted, Limit>
     requires { Rows refs.now rows.old used many named × FilingBegun names.old rows.old lists.old mark at × (t < many) }
     ensures kinds { Sorts names.old rows.old lists.old names.new
         rows.new lists.new named mark at
@@ -193,7 +204,7 @@ fn file_choice(
     choice: Choice,
     mark: usize,
     at: usize,
-) -> Sorted
+) -> Result<Sorted, Limit>
     requires { Tables file.now names.old refs.now rows.old named used many × Within named many choice
         × FilingBegun names.old rows.old lists.old mark at }
     ensures kinds { Chooses file.now names.old refs.now rows.old
@@ -242,10 +253,22 @@ fn file_choice(
             file_refinement(names, refs, rows, lists, named, used, many, t, mark, at)
         }
         Choice::Token(n) => file_token(file, names, lists, named, n, at),
-        Choice::Nothing => Sorted::Kind(AsumKind::Triggers(0), at, named),
+        Choice::Nothing => Ok(Sorted {
+            kind: AsumKind::Triggers(0),
+            end: at,
+            total: named,
+        }),
         Choice::Parts(t) => file_parts(names, refs, rows, lists, named, used, many, t, mark, at),
-        Choice::Drop => Sorted::Kind(AsumKind::Drop, at, named),
-        Choice::Ambient => Sorted::Kind(AsumKind::Ambient(false), at, named),
+        Choice::Drop => Ok(Sorted {
+            kind: AsumKind::Drop,
+            end: at,
+            total: named,
+        }),
+        Choice::Ambient => Ok(Sorted {
+            kind: AsumKind::Ambient(false),
+            end: at,
+            total: named,
+        }),
     }
 }
 
@@ -264,14 +287,14 @@ fn finish(
     end: usize,
     mark: usize,
     uses: usize,
-) -> Summarized
+) -> Result<Summary, Limit>
     requires { Rows refs.now rows.old used many named × (working_words ≤ length names.old) × (t < many)
         × Fresh names.old rows.old mark × (mark + 1 < word_limit) × (entries_base ≤ end) × (uses ≤ most_uses)
         × (working_words ≤ length lists.old) }
     ensures { Finishes names.old refs.now rows.old lists.old
         names.new rows.new lists.new named total used many t kind end mark uses result }
 {
-    match gather::gather_term(
+    let n = gather::gather_term(
         names,
         refs,
         rows,
@@ -283,16 +306,15 @@ fn finish(
         mark as u32,
         uses,
         model::MOST_USES,
-    ) {
-        Walked::Names(n) => Summarized::Done(Summary {
-            kind,
-            entries: end - triggers::ENTRIES,
-            uses: n,
-            named: total,
-            mark: mark + 1,
-        }),
-        Walked::Full => Summarized::Over(Limit::Uses),
-    }
+    )
+    .ok_or(Limit::Uses)?;
+    Ok(Summary {
+        kind,
+        entries: end - triggers::ENTRIES,
+        uses: n,
+        named: total,
+        mark: mark + 1,
+    })
 }
 
 // `summarize_assumption`: the kind of a fact, its disjuncts from entry `entries` on, and its free names from use `uses` on.
@@ -310,13 +332,13 @@ pub fn summarize_assumption(
     mark: usize,
     entries: usize,
     uses: usize,
-) -> Summarized
+) -> Result<Summary, Limit>
     requires { Asked file.now names.old refs.now rows.old lists.old named used many name t mark entries uses }
     ensures answer { (exclude : List Name) → Excludes exclude file.now names.old named → result
         ≡ limited (fact_summary exclude file.now names.old refs.now rows.old named
         used many name t mark entries uses) }
     ensures sets { (exclude : List Name) → Excludes exclude file.now names.old named
-        → (s : Summary) → result ≡ Summarized.Done s → Lists exclude file.now names.old refs.now
+        → (s : Summary) → result ≡ Ok s → Lists exclude file.now names.old refs.now
         rows.old named used many name t names.new rows.new lists.new entries uses s }
     ensures slices { Slices names.old rows.old lists.old names.new
         rows.new lists.new entries uses }
@@ -324,26 +346,33 @@ pub fn summarize_assumption(
         rows.old lists.old named name t mark entries uses) names.new rows.new
         lists.new }
 {
-    let choice = rules::summarize_kind(file, names, refs, rows, named, used, many, name, t);
+    let tables = TermTables {
+        file,
+        names: &*names,
+        refs,
+        rows: &*rows,
+        named,
+        used,
+        many,
+    };
+    let choice = tables.summarize_kind(name, t);
     let at = triggers::ENTRIES + entries;
-    match file_choice(
+    let sorted = file_choice(
         file, names, refs, rows, lists, named, used, many, choice, mark, at,
-    ) {
-        Sorted::Kind(kind, end, total) => finish(
-            names,
-            refs,
-            rows,
-            lists,
-            named,
-            total,
-            used,
-            many,
-            t,
-            kind,
-            end,
-            mark + 1 + (end - at),
-            uses,
-        ),
-        Sorted::Over(limit) => Summarized::Over(limit),
-    }
+    )?;
+    finish(
+        names,
+        refs,
+        rows,
+        lists,
+        named,
+        sorted.total,
+        used,
+        many,
+        t,
+        sorted.kind,
+        sorted.end,
+        mark + 1 + (sorted.end - at),
+        uses,
+    )
 }

@@ -5,6 +5,7 @@ use Rattle.model.specs.Outcome.{working_words}
 use Rattle.model.specs.declared.Counts.{Counts}
 use Rattle.names.specs.Table.{Table}
 use Rattle.rules.specs.Choices.{OfTables}
+use Rattle.summary_printing.specs.declared.Fact.{Fact}
 use Rattle.records.specs.Columns.{record_name, record_term, uses_end, entries_start, entries_end}
 
 -- the names are there, and the entries and the uses of the i-th record are among those that there can be
@@ -27,3 +28,7 @@ pub record Headed (file names refs rows recs : List ℕ) (k : Counts) (i : ℕ) 
 pub record Printable (file names refs rows recs lists : List ℕ) (k : Counts) (i : ℕ) : Type 0 where
   pub headed : Headed file names refs rows recs k i
   pub listed : Listed file names recs lists k.names i
+
+-- a fact can be printed
+abbrev pub IsPrintable : Fact → Type 0
+IsPrintable f = Printable f.file.now f.names.now f.refs.now f.rows.now f.recs.now f.lists.now f.k f.i

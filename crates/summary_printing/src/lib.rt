@@ -5,255 +5,177 @@
 ghost use Rattle.std.specs.Prelude.{◌≤◌, length};
 ghost use Rattle.model.specs.Reading.{most_records};
 ghost use Rattle.model.specs.Outcome.{working_words};
-ghost use Rattle.names.specs.Table.{Table};
 ghost use Rattle.macros.specs.Macros.{Filled};
 ghost use Rattle.reader.specs.Lines.{TermsStand};
-ghost use Rattle.summary_printing.specs.Facts.{Headed, Listed, Printable};
+ghost use Rattle.summary_printing.specs.Facts.{IsPrintable};
 
+use itoa::Buffer;
 use model::Counts;
+use rules::tables::TermTables;
+use std::io::{self, Write};
 
-// Standard output.
-const STDOUT: i32 = 1;
-
-// Prints bytes; whether they were written.
-fn put(bytes: &[u8]) -> bool {
-    io::write_all(STDOUT, bytes)
+// Prints a number in decimal digits.
+fn put_number<W: Write>(writer: &mut W, n: usize) -> io::Result<()> {
+    writer.write_all(Buffer::new().format(n).as_bytes())
 }
 
-// Prints a number in decimal digits; whether it was written.
-fn put_number(n: usize) -> bool {
-    io::print_decimal(STDOUT, n as u64)
+// Prints a name and the number of a rule, each behind a comma.
+fn put_named<W: Write>(writer: &mut W, name: &[u8], rule: usize) -> io::Result<()> {
+    writer.write_all(b",")?;
+    writer.write_all(name)?;
+    writer.write_all(b",")?;
+    put_number(writer, rule)
+}
+
+// Prints the kind of a summary by its code.
+fn put_kind<W: Write>(writer: &mut W, code: usize) -> io::Result<()> {
+    match code {
+        records::DROP => writer.write_all(b",drop"),
+        records::AMBIENT => writer.write_all(b",ambient,0"),
+        records::AMBIENT_ROOT => writer.write_all(b",ambient,1"),
+        _ => writer.write_all(b",triggers"),
+    }
 }
 
 // Whether the words from `a` up to `e` have the number of a name.
 fn has_number(lists: &[u32], a: usize, e: usize, n: usize) -> bool
     requires { e ≤ length lists.now }
 {
-    let mut i = a;
-    while i < e {
+    for i in a..e {
         if words::at(lists, i) % triggers::LAST == n {
             return true;
         }
-        i += 1;
     }
     false
 }
 
-// Prints a name of a set, behind a space where it is not the first; whether it was written.
-fn put_member(bytes: &[u8], first: bool) -> bool {
-    if !first {
-        if !put(b" ") {
-            return false;
-        }
-    }
-    put(bytes)
+// A fact, the i-th record of the tables of a file.
+#[derive(Clone, Copy)]
+struct Fact<'a> {
+    file: &'a [u8],
+    names: &'a [u32],
+    refs: &'a [u32],
+    rows: &'a [u32],
+    recs: &'a [u32],
+    lists: &'a [u32],
+    k: Counts,
+    i: usize,
 }
 
-// Prints in braces and in byte order the names whose numbers stand from `a` up to `e`; whether they were written.
-fn put_set(file: &[u8], names: &[u32], lists: &[u32], named: usize, a: usize, e: usize) -> bool
-    requires { Table file.now names.now named × (e ≤ length lists.now) }
-{
-    if !put(b"{") {
-        return false;
-    }
-    let mut first = true;
-    let mut r = 0;
-    while r < named {
-        let n = words::at(names, names::INDEX + r);
-        if has_number(lists, a, e, n) {
-            if !put_member(names::name_part(file, names, named, n), first) {
-                return false;
+impl Fact<'_> {
+    // Prints in braces and in byte order the names whose numbers stand from `a` up to `e`.
+    fn put_set<W: Write>(&self, writer: &mut W, a: usize, e: usize) -> io::Result<()>
+        requires { IsPrintable self.now × (e ≤ length self.now.lists.now) }
+    {
+        let Fact {
+            file,
+            names,
+            lists,
+            k,
+            ..
+        } = *self;
+        writer.write_all(b"{")?;
+        let mut gap: &[u8] = b"";
+        for r in 0..k.names {
+            let n = words::at(names, names::INDEX + r);
+            if has_number(lists, a, e, n) {
+                writer.write_all(gap)?;
+                writer.write_all(names::name_part(file, names, k.names, n))?;
+                gap = b" ";
             }
-            first = false;
         }
-        r += 1;
+        writer.write_all(b"}")
     }
-    put(b"}")
-}
 
-// Prints a disjunct, whose entries stand from `a` up to `e`, behind a comma; whether it was written.
-fn put_disjunct(file: &[u8], names: &[u32], lists: &[u32], named: usize, a: usize, e: usize) -> bool
-    requires { Table file.now names.now named × (e ≤ length lists.now) }
-{
-    if !put(b",") {
-        return false;
+    // Prints a disjunct, whose entries stand from `a` up to `e`, behind a comma.
+    fn put_disjunct<W: Write>(&self, writer: &mut W, a: usize, e: usize) -> io::Result<()>
+        requires { IsPrintable self.now × (e ≤ length self.now.lists.now) }
+    {
+        writer.write_all(b",")?;
+        self.put_set(writer, a, e)
     }
-    put_set(file, names, lists, named, a, e)
-}
 
-// Prints the disjuncts whose entries stand from `a` up to `e`; whether they were written.
-fn put_disjuncts(
-    file: &[u8],
-    names: &[u32],
-    lists: &[u32],
-    named: usize,
-    a: usize,
-    e: usize,
-) -> bool
-    requires { Table file.now names.now named × (e ≤ length lists.now) }
-{
-    let mut from = a;
-    let mut i = a;
-    while i < e {
-        if triggers::LAST <= words::at(lists, i) {
-            if !put_disjunct(file, names, lists, named, from, i + 1) {
-                return false;
+    // Prints the disjuncts whose entries stand from `a` up to `e`.
+    fn put_disjuncts<W: Write>(&self, writer: &mut W, a: usize, e: usize) -> io::Result<()>
+        requires { IsPrintable self.now × (e ≤ length self.now.lists.now) }
+    {
+        let mut from = a;
+        for i in a..e {
+            if triggers::LAST <= words::at(self.lists, i) {
+                self.put_disjunct(writer, from, i + 1)?;
+                from = i + 1;
             }
-            from = i + 1;
         }
-        i += 1;
+        Ok(())
     }
-    true
+
+    // Prints its name and the number of the rule that gave it its kind.
+    fn put_rule<W: Write>(&self, writer: &mut W) -> io::Result<()>
+        requires { IsPrintable self.now }
+    {
+        let name = words::at(self.recs, records::NAME + self.i);
+        let t = words::at(self.recs, records::TERM + self.i);
+        let tables = TermTables {
+            file: self.file,
+            names: self.names,
+            refs: self.refs,
+            rows: self.rows,
+            named: self.k.names,
+            used: self.k.references,
+            many: self.k.terms,
+        };
+        let rule = tables.rule_of(name, t);
+        put_named(
+            writer,
+            names::name_part(self.file, self.names, self.k.names, name),
+            rule,
+        )
+    }
+
+    // Prints its line as far as its summary. Its name and its rule stand there where they are asked for.
+    fn put_head<W: Write>(&self, writer: &mut W, ruled: bool) -> io::Result<()>
+        requires { IsPrintable self.now }
+    {
+        writer.write_all(b"fact,")?;
+        put_number(writer, words::at(self.recs, records::LINE + self.i))?;
+        if ruled { self.put_rule(writer) } else { Ok(()) }
+    }
+
+    // Prints its kind and its disjuncts.
+    fn put_summary<W: Write>(&self, writer: &mut W) -> io::Result<()>
+        requires { IsPrintable self.now }
+    {
+        put_kind(writer, words::at(self.recs, records::SUMMARY + self.i))?;
+        let start = words::at(self.recs, records::ENTRIES_START + self.i);
+        let end = words::at(self.recs, records::ENTRIES_END + self.i);
+        self.put_disjuncts(writer, triggers::ENTRIES + start, triggers::ENTRIES + end)
+    }
+
+    // Prints its free names, to the end of its line.
+    fn put_free<W: Write>(&self, writer: &mut W) -> io::Result<()>
+        requires { IsPrintable self.now }
+    {
+        writer.write_all(b" free=")?;
+        let from = words::at(self.recs, records::USES_START + self.i);
+        let to = words::at(self.recs, records::USES_END + self.i);
+        self.put_set(writer, from, to)?;
+        writer.write_all(b"\n")
+    }
+
+    // Prints its summary, with its name and its rule or without.
+    fn put<W: Write>(&self, writer: &mut W, ruled: bool) -> io::Result<()>
+        requires { IsPrintable self.now }
+    {
+        self.put_head(writer, ruled)?;
+        self.put_summary(writer)?;
+        self.put_free(writer)
+    }
 }
 
-// Prints the kind of a summary by its code; whether it was written.
-fn put_kind(code: usize) -> bool {
-    if code == records::DROP {
-        return put(b",drop");
-    }
-    if code == records::AMBIENT {
-        return put(b",ambient,0");
-    }
-    if code == records::AMBIENT_ROOT {
-        return put(b",ambient,1");
-    }
-    put(b",triggers")
-}
-
-// Prints a name and the number of a rule, each behind a comma; whether they were written.
-fn put_named(name: &[u8], rule: usize) -> bool {
-    if !put(b",") {
-        return false;
-    }
-    if !put(name) {
-        return false;
-    }
-    if !put(b",") {
-        return false;
-    }
-    put_number(rule)
-}
-
-// Prints the name of a fact, the i-th record, and the number of the rule that gave it its kind; whether they were written.
-fn put_rule(
-    file: &[u8],
-    names: &[u32],
-    refs: &[u32],
-    rows: &[u32],
-    recs: &[u32],
-    k: Counts,
-    i: usize,
-) -> bool
-    requires { Headed file.now names.now refs.now rows.now recs.now k i }
-{
-    let name = words::at(recs, records::NAME + i);
-    let t = words::at(recs, records::TERM + i);
-    let rule = rules::rule_of(
-        file,
-        names,
-        refs,
-        rows,
-        k.names,
-        k.references,
-        k.terms,
-        name,
-        t,
-    );
-    put_named(names::name_part(file, names, k.names, name), rule)
-}
-
-// Prints the line of a fact, the i-th record, as far as its summary; whether it was written. Its name and its rule stand there
-// where they are asked for.
-fn put_head(
-    file: &[u8],
-    names: &[u32],
-    refs: &[u32],
-    rows: &[u32],
-    recs: &[u32],
-    k: Counts,
-    i: usize,
-    ruled: bool,
-) -> bool
-    requires { Headed file.now names.now refs.now rows.now recs.now k i }
-{
-    if !put(b"fact,") {
-        return false;
-    }
-    if !put_number(words::at(recs, records::LINE + i)) {
-        return false;
-    }
-    if !ruled {
-        return true;
-    }
-    put_rule(file, names, refs, rows, recs, k, i)
-}
-
-// Prints the kind of a fact, the i-th record, and its disjuncts; whether they were written.
-fn put_summary(
-    file: &[u8],
-    names: &[u32],
-    recs: &[u32],
-    lists: &[u32],
-    named: usize,
-    i: usize,
-) -> bool
-    requires { Listed file.now names.now recs.now lists.now named i }
-{
-    if !put_kind(words::at(recs, records::SUMMARY + i)) {
-        return false;
-    }
-    let start = words::at(recs, records::ENTRIES_START + i);
-    let end = words::at(recs, records::ENTRIES_END + i);
-    put_disjuncts(
-        file,
-        names,
-        lists,
-        named,
-        triggers::ENTRIES + start,
-        triggers::ENTRIES + end,
-    )
-}
-
-// Prints the free names of a fact, the i-th record, to the end of its line; whether they were written.
-fn put_free(file: &[u8], names: &[u32], recs: &[u32], lists: &[u32], named: usize, i: usize) -> bool
-    requires { Listed file.now names.now recs.now lists.now named i }
-{
-    if !put(b" free=") {
-        return false;
-    }
-    let from = words::at(recs, records::USES_START + i);
-    let to = words::at(recs, records::USES_END + i);
-    if !put_set(file, names, lists, named, from, to) {
-        return false;
-    }
-    put(b"\n")
-}
-
-// Prints the summary of a fact, the i-th record, with its name and its rule or without; whether it was written.
-fn put_fact(
-    file: &[u8],
-    names: &[u32],
-    refs: &[u32],
-    rows: &[u32],
-    recs: &[u32],
-    lists: &[u32],
-    k: Counts,
-    i: usize,
-    ruled: bool,
-) -> bool
-    requires { Printable file.now names.now refs.now rows.now recs.now lists.now k i }
-{
-    if !put_head(file, names, refs, rows, recs, k, i, ruled) {
-        return false;
-    }
-    if !put_summary(file, names, recs, lists, k.names, i) {
-        return false;
-    }
-    put_free(file, names, recs, lists, k.names, i)
-}
-
-// Prints the summary of each fact, with its name and its rule or without; whether each was written.
-pub fn put_facts(
+// Prints the summary of each fact, with its name and its rule or without. The tables are loose, as the reader leaves them: six
+// slices of the caller.
+pub fn put_facts<W: Write>(
+    writer: &mut W,
     file: &[u8],
     names: &[u32],
     refs: &[u32],
@@ -262,19 +184,25 @@ pub fn put_facts(
     lists: &[u32],
     k: Counts,
     ruled: bool,
-) -> bool
+) -> io::Result<()>
     requires { Filled file.now names.now recs.now lists.now k × TermsStand refs.now rows.now recs.now k }
 {
-    let mut i = 0;
-    while i < k.records {
+    for i in 0..k.records {
         if words::at(recs, records::KIND + i) == records::ASSUME {
-            if !put_fact(file, names, refs, rows, recs, lists, k, i, ruled) {
-                return false;
-            }
+            let fact = Fact {
+                file,
+                names,
+                refs,
+                rows,
+                recs,
+                lists,
+                k,
+                i,
+            };
+            fact.put(writer, ruled)?;
         }
-        i += 1;
     }
-    true
+    Ok(())
 }
 
 // How many facts there are.

@@ -65,24 +65,19 @@ one_note line i w n = notes_cons line i w n [] ∙ notes_nil line i (note line i
 
 -- from place j of a part on there is left to note, of what each word brings, what from the start there was
 pub record Left (brings : ℕ → List ℕ) (recs l w₀ : List ℕ) (i a e : ℕ) (w : List ℕ) (j : ℕ) : Type 0 where
-  pub low : a ≤ j
-  pub high : j ≤ e
   pub same_length : length w ≡ length w₀
   pub notable : Notable recs w
   pub left : notes (record_line recs) i w₀ (collect brings (part l a e)) ≡ notes (record_line recs) i w (collect brings (part l j e))
 
 module _ {brings : ℕ → List ℕ} {recs l w₀ : List ℕ} {i a e : ℕ} where
-  pub left_start : a ≤ e → Notable recs w₀ → Left brings recs l w₀ i a e w₀ a
-  left_start p x = record { low = omega arith; high = p; same_length = refl; notable = x; left = refl }
+  pub left_start : Notable recs w₀ → Left brings recs l w₀ i a e w₀ a
+  left_start x = record { same_length = refl; notable = x; left = refl }
 
   pub left_next : {w v : List ℕ} {j x : ℕ} → Left brings recs l w₀ i a e w j → j < e → e ≤ length l → i < most_records → x ≡ get_or l j 0
       → v ≡ notes (record_line recs) i w (brings x) → Left brings recs l w₀ i a e v (j + 1)
   unfolding collect
   left_next {w} {v} {j} {x} m p b s c d =
-      let lo = m.low in
       record {
-        low = omega arith;
-        high = omega arith;
         same_length = ap length d ∙ notes_length (record_line recs) i w (brings x) ∙ m.same_length;
         notable = subst (Notable recs) (sym d) (notes_notable (record_line recs) i {w = w} (brings x) s m.notable);
         left = m.left
@@ -167,7 +162,6 @@ cleared_notable r l z = record {
 
 -- the first i records are noted
 pub record Passed (names recs lists : List ℕ) (k : Counts) (a : Asked) (cleared w : List ℕ) (i : ℕ) : Type 0 where
-  pub within : i ≤ k.records
   pub notable : Notable recs w
   pub same_length : length w ≡ length cleared
   pub is : w ≡ noted_suppliers (held_of names recs lists k a) (record_line recs) (starts_at recs a) i cleared
@@ -175,14 +169,13 @@ pub record Passed (names recs lists : List ℕ) (k : Counts) (a : Asked) (cleare
 module _ {names recs lists : List ℕ} {k : Counts} {a : Asked} {cleared : List ℕ} where
   pub pass_start : Notable recs cleared → Passed names recs lists k a cleared cleared 0
   unfolding noted_suppliers
-  pass_start x = record { within = omega arith; notable = x; same_length = refl; is = refl }
+  pass_start x = record { notable = x; same_length = refl; is = refl }
 
-  module _ {w : List ℕ} {i : ℕ} (x : Passed names recs lists k a cleared w i) (l : i < k.records)
+  module _ {w : List ℕ} {i : ℕ} (x : Passed names recs lists k a cleared w i)
       {b : Bool} (p : b ≡ was_scanned (starts_at recs a) w i) where
     pub pass_over : b ≡ false → Passed names recs lists k a cleared w (i + 1)
     unfolding noted_suppliers held_of
     pass_over f = record {
-      within = omega arith;
       notable = x.notable;
       same_length = x.same_length;
       is = rw (add-one i, ← x.is, ← p, f);
@@ -192,18 +185,15 @@ module _ {names recs lists : List ℕ} {k : Counts} {a : Asked} {cleared : List 
         → Passed names recs lists k a cleared v (i + 1)
     unfolding noted_suppliers held_of
     pass_next s t d = record {
-      within = omega arith;
       notable = subst (Notable recs) (sym d) (notes_notable (record_line recs) i {w = w} (record_meets names recs lists i) s x.notable);
       same_length = ap length d ∙ notes_length (record_line recs) i w (record_meets names recs lists i) ∙ x.same_length;
       is = d ∙ rw (add-one i, ← x.is, ← p, t);
     }
 
   pub pass_end : {before w : List ℕ} {i : ℕ} → Laid names recs lists k → working_words ≤ length before → Zeroed supplier_column most_names before cleared
-      → Passed names recs lists k a cleared w i → k.records ≤ i → SuppliersNoted names recs lists k a before w
+      → Passed names recs lists k a cleared w i → i ≡ k.records → SuppliersNoted names recs lists k a before w
   unfolding held_of
-  pass_end {before} {w} {i} laid room z x l =
-      let h = x.within in
-      let e : i ≡ k.records = omega arith in
+  pass_end {before} {w} {i} laid room z x e =
       let is = subst (λ n. w ≡ noted_suppliers (held_of names recs lists k a) (record_line recs) (starts_at recs a) n cleared) e x.is in
       record {
         cleared = cleared;

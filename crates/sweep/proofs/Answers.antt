@@ -32,7 +32,7 @@ use Rattle.filter.specs.Call.{position_of, positions_of}
 use Rattle.front.proofs.Laws.{open_read}
 use Rattle.filter.proofs.Answers.{slice_rest, part_take, state_outcome, open_runs}
 use Rattle.sweep.proofs.Laws.{ListsOn}
-use Rattle.sweep.specs.Call.{Exact, telling, passes_at, passes_before, ListedAt, Replied, Settles, SweepsOver}
+use Rattle.sweep.specs.Call.{Exact, Gives, telling, passes_at, passes_before, ListedAt, SweepsOver}
 
 -- ---- what the sweeps ask
 
@@ -173,14 +173,12 @@ unfolding swept telling answer passes_told
 stopped_told r place = refl
 
 -- 8 or the lines behind an open file
-pub open_gives : {file : List ℕ} {lent held : Working} {k : Counts} {a r : Swept} {total : ℕ} {lines out out' : List ℕ} → OpenFile file lent held k
-    → Replied (positions_of file held.names held.recs held.lists k k.asks)
-    (passes_before file held.names held.recs held.lists k k.asks) a total lines
-    → Settles a total lines out r out'
+pub open_gives : {file : List ℕ} {lent held : Working} {k : Counts} {r : Swept} {out out' : List ℕ} → OpenFile file lent held k
+    → Gives (fitting (length out) (outcomes.lists (positions_of file held.names held.recs held.lists k k.asks)))
+    (passes_before file held.names held.recs held.lists k k.asks) out r out'
     → (r ≡ sweep_answer file (sizes lent) (length out)) × (out' ≡ result_after (outcome file (sizes lent) (length out)) out)
 unfolding outcome sweep_answer
-open_gives {file} {lent} {held} {k} {r = r} {out = out} {out'} f p s =
-    let given = s.settled _ _ p in
+open_gives {file} {lent} {held} {k} {out = out} f given =
     rw (f.state, opened_told (state_in file held k) (fitting (length out) (answered (opened (state_in file held k)))), state_outcome file held k, state_passes file held k)
     (given.told, given.result)
 

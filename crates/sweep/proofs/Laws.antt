@@ -4,19 +4,18 @@ use native.Mathlib.Omega.{arith}
 use mathlib.Core.Path.{◌≡◌, refl, sym, ◌∙◌, ap}
 use mathlib.Core.Bool.{false}
 use mathlib.Core.List.{List, [], ◌∷◌, ◌++◌, map}
-use lib.ListN.{length, set, replicate, length-append}
+use lib.ListN.{length, take, drop, set, replicate, length-append}
 use borrow.Author.Tests.{le-leb, lt-leb}
 use Rattle.model.specs.Reading.{most_records, most_asks}
 use Rattle.model.specs.Outcome.{Position, refusal_at, lists, all_kept, padded, fitting, working_words, answer, result_after}
-use Rattle.model.specs.declared.Refusal.{Refusal}
 use Rattle.model.specs.declared.Refusal.TheVariants as refusal
 use Rattle.model.specs.declared.Swept.{Swept}
-use Rattle.model.specs.declared.Verdict.TheVariants.{Accepted, Refused}
-use Rattle.words.specs.Slices.{SameBut, Copied}
+use Rattle.model.specs.declared.Verdict.TheVariants.{Accepted}
+use Rattle.words.specs.Slices.{SameBut}
 use Rattle.filter.specs.Call as first_call
 use Rattle.filter.proofs.Laws as first_laws
 use Rattle.filter.proofs.Laws.{padded_next, count_next}
-use Rattle.sweep.specs.Call.{telling, ListedAt, Replied, Settles}
+use Rattle.sweep.specs.Call.{telling, ListedAt, Replied, Gives}
 use Rattle.sweep.specs.declared.Tally.{Tally}
 
 -- ---- the lists of the asks, one after the other
@@ -86,32 +85,20 @@ lists_last o h = record { told = o.told; listed = first_laws.lists_last o.listed
 
 -- ---- 8, or the lines
 
-pub settle_8 : {a r : Swept} {total : ℕ} {lines out : List ℕ} → length out < total → r ≡ telling (refusal_at refusal.Room total) []
-    → Settles a total lines out r out
-unfolding fitting result_after telling
-settle_8 {total = total} {out = out} k e = record {
-  settled = λ ps passes p.
-      let n : total ≡ length (all_kept ps) = p.listed.counted in
-      rw (lt-leb (length (all_kept ps)) (length out) (rw n at k)) (record { told = rw n at e; result = refl });
-  same_length = refl;
-}
+module _ {ps : List Position} {passes : List ℕ} {a : Swept} {total : ℕ} {lines : List ℕ} (p : Replied ps passes a total lines)
+    {out out' : List ℕ} where
+  -- lists that do not fit are 8
+  pub gives_8 : {r : Swept} {n : ℕ} → length out < total → n ≡ total → out' ≡ out → r ≡ telling (refusal_at refusal.Room n) []
+      → Gives (fitting (length out) (lists ps)) passes out r out'
+  unfolding fitting result_after telling
+  gives_8 k n q e =
+      let many : total ≡ length (all_kept ps) = p.listed.counted in
+      rw (lt-leb (length (all_kept ps)) (length out) (rw many at k)) (record { told = rw (n, many) at e; result = q })
 
-pub settle_list : {a : Swept} {total : ℕ} {lines out v : List ℕ} → total ≤ length lines → total ≤ length out
-    → Copied lines 0 0 total out v → Settles a total lines out a v
-unfolding fitting
-settle_list {a} {total} {lines} {out} {v} h k c = record {
-  settled = λ ps passes p.
-      let n : total ≡ length (all_kept ps) = p.listed.counted in
-      rw (le-leb (length (all_kept ps)) (length out) (rw n at k)) (record {
-        told = p.told;
-        result = rw (le-leb (length (all_kept ps)) (length out) (rw n at k)) at
-            ((first_laws.settle_list h k c).settled ps p.listed).result;
-      });
-  same_length = c.same.same_length;
-}
-
--- a refused answer
-pub refused_is : (r : Refusal) (place : ℕ)
-    → record { verdict = Refused r; place = place; kept = replicate 16 0; passes = replicate 16 0 } ≡ telling (refusal_at r place) []
-unfolding telling padded
-refused_is r place = refl
+  -- others stand in the result slice
+  pub gives_lists : total ≤ length out → out' ≡ take total lines ++ drop total out → Gives (fitting (length out) (lists ps)) passes out a out'
+  unfolding fitting
+  gives_lists k q =
+      let many : total ≡ length (all_kept ps) = p.listed.counted in
+      let fits = le-leb (length (all_kept ps)) (length out) (rw many at k) in
+      rw fits (record { told = p.told; result = rw fits at (first_laws.gives_lists p.listed k q).result })

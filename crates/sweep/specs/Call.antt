@@ -1,7 +1,7 @@
 -- What a call of `sweep` leaves, and what its parts leave to each other.
 use Rattle.std.specs.Prelude.{ℕ, zero, suc, ◌≤◌, ◌≡◌, List, [], ◌∷◌, ◌++◌, map, length, take, drop}
 use Rattle.model.specs.Reading.{most_records, most_asks}
-use Rattle.model.specs.Outcome.{Position, Outcome, fitting, outcome, padded, working_words, answer, result_after}
+use Rattle.model.specs.Outcome.{Position, Outcome, outcome, padded, working_words, answer, result_after}
 use Rattle.model.specs.Outcome as outcomes
 use Rattle.model.specs.Sweep.{sweep_answer}
 use Rattle.model.specs.Working.{Working, sizes, works_after}
@@ -71,12 +71,6 @@ pub record Replied (ps : List Position) (passes : List ℕ) (a : Swept) (total :
 pub record Gives (o : Outcome) (passes out : List ℕ) (a : Swept) (out' : List ℕ) : Type 0 where
   pub told : a ≡ telling o passes
   pub result : out' ≡ result_after o out
-
--- 8, or the lines written, for whatever positions and passes the answer is of
-pub record Settles (a : Swept) (total : ℕ) (lines out : List ℕ) (r : Swept) (out' : List ℕ) : Type 0 where
-  pub settled : (ps : List Position) (passes : List ℕ) → Replied ps passes a total lines
-      → Gives (fitting (length out) (outcomes.lists ps)) passes out r out'
-  pub same_length : length out' ≡ length out
 
 -- what the sweeps and the lists ask: tables filled from the file, slices for the lists and the run, no more positions than a
 -- file may have, no list of more lines than a file has records, and sweeps that reach what runs do

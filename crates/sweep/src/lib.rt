@@ -1,17 +1,19 @@
+// The exported call of the second engine: sweeps and kept lists, position after position, and 8. The six lent slices are
+// parameters of their own, as in `filter`.
 #![tactic(auto)]
 
-ghost use Rattle.std.specs.Prelude.{◌+◌, ◌≤◌, ◌<◌, ◌≡◌, [], length};
+ghost use Rattle.std.specs.Prelude.{◌+◌, ◌≤◌, ◌<◌, ◌≡◌, []};
 ghost use Rattle.model.specs.Reading.{most_records};
 ghost use Rattle.model.specs.Outcome.{refusal_at, working_words};
 ghost use Rattle.model.specs.Working.{six};
 ghost use Rattle.words.specs.Slices.{SameBut};
 ghost use Rattle.records.specs.States.{asked_at};
 ghost use Rattle.filter.specs.Call.{position_of, positions_of};
-ghost use Rattle.sweep.specs.Call.{telling, passes_at, passes_before, ListedAt, Replied, Settles, SweepsOver};
+ghost use Rattle.sweep.specs.Call.{telling, passes_at, passes_before, ListedAt, Replied, SweepsOver};
 ghost use Rattle.sweep.specs.Demands.{KeptPromise};
 
-use front::Opened;
-use model::{Counts, Refusal, Swept, Verdict};
+use firing::tables::RecordTables;
+use model::{Refusal, Swept, Verdict};
 
 // The counts of one list: its lines, and the passes of its sweep.
 #[derive(Clone, Copy)]
@@ -27,7 +29,8 @@ struct Tallied {
     pub total: usize,
 }
 
-// A refused answer: its place, and every count 0.
+// A refused answer: its place, and every count 0. A function in each call, since the answers differ in their counts.
+#[tactic(auto, unfolding(crate::specs::Call::telling, model::specs::Outcome::padded))]
 fn refused(r: Refusal, place: u32) -> Swept
     ensures { result ≡ telling (refusal_at r place) [] }
 {
@@ -43,26 +46,23 @@ fn refused(r: Refusal, place: u32) -> Swept
 // the references' slice on, which the reading has done with.
 fn list_ask(
     file: &[u8],
-    names: &[u32],
+    tables: &RecordTables,
     refs: &mut [u32],
-    recs: &[u32],
-    lists: &[u32],
     run: &mut [u32],
-    k: Counts,
     i: usize,
     at: usize,
 ) -> Tally
-    requires { SweepsOver file.now names.now refs.old recs.now lists.now run.old k × (i < k.asks)
-        × (at + most_records ≤ working_words) }
-    ensures listed { ListedAt (position_of file.now names.now recs.now
-        lists.now k (asked_at recs.now i))
-        (passes_at file.now names.now recs.now lists.now k i)
+    requires { SweepsOver file.now tables.now.names.now refs.old tables.now.recs.now tables.now.lists.now run.old tables.now.k
+        × (i < tables.now.k.asks) × (at + most_records ≤ working_words) }
+    ensures listed { ListedAt (position_of file.now tables.now.names.now tables.now.recs.now
+        tables.now.lists.now tables.now.k (asked_at tables.now.recs.now i))
+        (passes_at file.now tables.now.names.now tables.now.recs.now tables.now.lists.now tables.now.k i)
         at refs.old refs.new result }
     ensures rest { SameBut 0 working_words run.old run.new }
 {
-    let a = records::ask_at(recs, i);
-    let passes = sweeping::sweep_ask(file, names, recs, lists, run, k, a);
-    let kept = prune::prune(file, names, recs, lists, run, k, a);
+    let a = records::ask_at(tables.recs, i);
+    let passes = sweeping::sweep_ask(file, tables, run, a);
+    let kept = prune::prune(file, tables, run, a);
     words::copy(run, prune::KEPT, refs, at, kept);
     Tally {
         kept: kept as u32,
@@ -70,20 +70,13 @@ fn list_ask(
     }
 }
 
-// Sweeps the positions one after the other; their lists stand end to end from the start of the references' slice on.
-fn list_asks(
-    file: &[u8],
-    names: &[u32],
-    refs: &mut [u32],
-    recs: &[u32],
-    lists: &[u32],
-    run: &mut [u32],
-    k: Counts,
-) -> Tallied
-    requires { SweepsOver file.now names.now refs.old recs.now lists.now run.old k }
-    ensures replied { Replied (positions_of file.now names.now recs.now
-        lists.now k k.asks)
-        (passes_before file.now names.now recs.now lists.now k k.asks)
+// Sweeps the positions one after the other; their lists stand end to end from the start of the references' slice on. Apart from
+// `filter`'s for the reason told there.
+fn list_asks(file: &[u8], tables: &RecordTables, refs: &mut [u32], run: &mut [u32]) -> Tallied
+    requires { SweepsOver file.now tables.now.names.now refs.old tables.now.recs.now tables.now.lists.now run.old tables.now.k }
+    ensures replied { Replied (positions_of file.now tables.now.names.now tables.now.recs.now
+        tables.now.lists.now tables.now.k tables.now.k.asks)
+        (passes_before file.now tables.now.names.now tables.now.recs.now tables.now.lists.now tables.now.k tables.now.k.asks)
         result.answer result.total refs.new }
     ensures rest { SameBut 0 working_words refs.old refs.new
         × SameBut 0 working_words run.old run.new }
@@ -94,29 +87,14 @@ fn list_asks(
         kept: [0; model::MOST_ASKS],
         passes: [0; model::MOST_ASKS],
     };
-    let asks = k.asks;
     let mut total: usize = 0;
-    let mut i: usize = 0;
-    while i < asks {
-        let one = list_ask(file, names, refs, recs, lists, run, k, i, total);
+    for i in 0..tables.k.asks {
+        let one = list_ask(file, tables, refs, run, i, total);
         a.kept[i] = one.kept;
         a.passes[i] = one.passes;
         total += one.kept as usize;
-        i += 1;
     }
     Tallied { answer: a, total }
-}
-
-// Writes the lines of all lists to the result slice, or refuses with 8.
-fn settle(a: Swept, total: usize, refs: &[u32], out: &mut [u32]) -> Swept
-    requires { (total ≤ working_words) × (working_words ≤ length refs.now) }
-    ensures { Settles a total refs.now out.old result out.new }
-{
-    if out.len() < total {
-        return refused(Refusal::Room, total as u32);
-    }
-    words::copy(refs, 0, out, 0, total);
-    a
 }
 
 // The exported call: `filter` by the second engine, with the passes of each position.
@@ -140,13 +118,21 @@ pub fn sweep(
     }) }
 {
     match front::open_file(file, w0, w1, w2, w3, w4, w5) {
-        Opened::Read(k) => {
-            let made = list_asks(file, w0, w1, w3, w4, w5, k);
-            let reply = made.answer;
-            let a = settle(reply, made.total, w1, out);
+        Ok(k) => {
+            let tables = RecordTables {
+                names: &*w0,
+                recs: &*w3,
+                lists: &*w4,
+                k,
+            };
+            let made = list_asks(file, &tables, w1, w5);
+            let put = filter::put_lists(w1, made.total, out);
             front::close_file(w0, w1, w2, w3, w4, w5);
-            a
+            match put {
+                Ok(()) => made.answer,
+                Err(total) => refused(Refusal::Room, total),
+            }
         }
-        Opened::Refused(r, place) => refused(r, place),
+        Err(r) => refused(r.refusal, r.place),
     }
 }

@@ -4,68 +4,53 @@ use native.Mathlib.Omega.{arith}
 use native.Mathlib.Numerals.{add-one}
 use mathlib.Core.Path.{◌≡◌, refl, sym, ◌∙◌, ap, subst}
 use mathlib.Core.Bool.{Bool, true, false}
-use mathlib.Core.Logic.{⊎_elim}
 use mathlib.Core.List.{List}
-use lib.ListN.{length, get_or, set, length-set}
-use lib.Seq.{ext_get_or}
+use lib.ListN.{length, set, length-set}
 use Rattle.model.specs.Reading.{most_records}
 use Rattle.model.specs.declared.Asked.{Asked}
 use Rattle.model.specs.declared.Counts.{Counts}
-use Rattle.terms.proofs.Laws.{below}
 use Rattle.words.specs.Slices.{Zeroed}
 use Rattle.firing.specs.Held.{Held, Fits}
 use Rattle.firing.specs.Met.{reached_column, work_column, run_end, marks, unreached, zeroed_to}
 use Rattle.firing.specs.Firing.{opened_all}
 use Rattle.firing.specs.Tables.{held_of, Laid, starts_at}
 use Rattle.firing.proofs.Marks.{marks_length}
-use Rattle.firing.proofs.Clearing.{clear_length, clear_zero, clear_far, few_unreached}
+use Rattle.firing.proofs.Clearing.{zeroed_is, clear_length, few_unreached}
 use Rattle.sweeping.specs.Sweeping.{Sweeping, sweeping, joins, joined, pass_record, passed, pass_all, Passes, last, more, met_of}
 use Rattle.sweeping.specs.Swept.{met_first}
 use Rattle.sweeping.proofs.Passing.{met_behind, pass_behind, pass_fewer}
 
 -- ---- the first names
 
--- a column from word 0 on set to zero
-pub zeroed_is : (n : ℕ) (w v : List ℕ) → n ≤ length w → Zeroed 0 n w v → v ≡ zeroed_to n w
-zeroed_is n w v l z =
-    ext_get_or 0 v (zeroed_to n w) (z.same.same_length ∙ sym (clear_length n w)) words
-  where
-    words : (i : ℕ) → i < length v → get_or v i 0 ≡ get_or (zeroed_to n w) i 0
-    words i h =
-        ⊎_elim (λ (x : i < n). z.zero i (omega arith) (omega arith) ∙ sym (clear_zero n w l i x))
-        (λ (x : n ≤ i). z.same.same_words i (λ a b. omega arith) ∙ sym (clear_far n w i x)) (below i n)
-
--- the first i of so many records are looked at
-pub record Meeting (h : Held) (test : ℕ → Bool) (w₀ : List ℕ) (count i : ℕ) (w : List ℕ) : Type 0 where
-  pub within : i ≤ count
+-- the first i records are looked at
+pub record Meeting (h : Held) (test : ℕ → Bool) (w₀ : List ℕ) (i : ℕ) (w : List ℕ) : Type 0 where
   pub same_length : length w ≡ length w₀
   pub met : w ≡ met_of h test i w₀
 
-module _ {h : Held} {test : ℕ → Bool} {w₀ : List ℕ} {count : ℕ} where
-  pub meet_start : {w : List ℕ} → w ≡ w₀ → Meeting h test w₀ count 0 w
+module _ {h : Held} {test : ℕ → Bool} {w₀ : List ℕ} where
+  pub meet_start : {w : List ℕ} → w ≡ w₀ → Meeting h test w₀ 0 w
   unfolding met_of
-  meet_start e = record { within = omega arith; same_length = ap length e; met = e }
+  meet_start e = record { same_length = ap length e; met = e }
 
-  module _ {i : ℕ} {w : List ℕ} (m : Meeting h test w₀ count i w) (l : i < count) {b : Bool} (p : b ≡ test i) where
-    pub meet_skip : b ≡ false → Meeting h test w₀ count (i + 1) w
+  module _ {i : ℕ} {w : List ℕ} (m : Meeting h test w₀ i w) {b : Bool} (p : b ≡ test i) where
+    pub meet_skip : b ≡ false → Meeting h test w₀ (i + 1) w
     unfolding met_of
-    meet_skip q = record { within = omega arith; same_length = m.same_length; met = rw (add-one i, ← p, q) m.met }
+    meet_skip q = record { same_length = m.same_length; met = rw (add-one i, ← p, q) m.met }
 
-    pub meet_next : {v : List ℕ} → b ≡ true → v ≡ marks 1 w (opened_all h.opens (h.frees i)) → Meeting h test w₀ count (i + 1) v
+    pub meet_next : {v : List ℕ} → b ≡ true → v ≡ marks 1 w (opened_all h.opens (h.frees i)) → Meeting h test w₀ (i + 1) v
     unfolding met_of
     meet_next q e =
         record {
-          within = omega arith;
           same_length = ap length e ∙ marks_length 1 w (opened_all h.opens (h.frees i)) ∙ m.same_length;
           met = rw (add-one i, ← p, q, ← m.met) e;
         }
 
-  pub meet_end : {i : ℕ} {w : List ℕ} → Meeting h test w₀ count i w → count ≤ i → w ≡ met_of h test count w₀
-  meet_end {i} {w} m l = let k = m.within in let e : i ≡ count = omega arith in subst (λ n. w ≡ met_of h test n w₀) e m.met
+  pub meet_end : {i count : ℕ} {w : List ℕ} → Meeting h test w₀ i w → i ≡ count → w ≡ met_of h test count w₀
+  meet_end {w = w} m e = subst (λ n. w ≡ met_of h test n w₀) e m.met
 
 -- the columns set to zero and the names met are the slice before the first pass
 pub first_names : (names recs lists : List ℕ) (k : Counts) (a : Asked) {w v u : List ℕ} {i : ℕ} → run_end ≤ length w → Zeroed 0 work_column w v
-    → Meeting (held_of names recs lists k a) (starts_at recs a) v k.records i u → k.records ≤ i → u ≡ met_first names recs lists k a w
+    → Meeting (held_of names recs lists k a) (starts_at recs a) v i u → i ≡ k.records → u ≡ met_first names recs lists k a w
 unfolding met_first
 first_names names recs lists k a {w} {v} long z m l =
     meet_end m l ∙ ap (met_of (held_of names recs lists k a) (starts_at recs a) k.records) (zeroed_is work_column w v (omega arith) z)
@@ -79,40 +64,36 @@ first_length {recs = recs} {k = k} laid a w e =
 
 -- ---- a pass
 
--- the first i of so many records are passed
-pub record Passing (h : Held) (w₀ : List ℕ) (count i : ℕ) (w : List ℕ) (added : Bool) : Type 0 where
-  pub within : i ≤ count
+-- the first i records are passed
+pub record Passing (h : Held) (w₀ : List ℕ) (i : ℕ) (w : List ℕ) (added : Bool) : Type 0 where
   pub same_length : length w ≡ length w₀
   pub goes : (n : ℕ) → sweeping w n added ≡ passed h i (sweeping w₀ n false)
 
-module _ {h : Held} {w₀ : List ℕ} {count : ℕ} where
-  pub pass_start : Passing h w₀ count 0 w₀ false
+module _ {h : Held} {w₀ : List ℕ} where
+  pub pass_start : Passing h w₀ 0 w₀ false
   unfolding passed
-  pass_start = record { within = omega arith; same_length = refl; goes = λ n. refl }
+  pass_start = record { same_length = refl; goes = λ n. refl }
 
-  module _ {i : ℕ} {w : List ℕ} {added : Bool} (m : Passing h w₀ count i w added) (l : i < count) {b : Bool} (p : b ≡ joins h w i) where
-    pub pass_skip : b ≡ false → Passing h w₀ count (i + 1) w added
+  module _ {i : ℕ} {w : List ℕ} {added : Bool} (m : Passing h w₀ i w added) {b : Bool} (p : b ≡ joins h w i) where
+    pub pass_skip : b ≡ false → Passing h w₀ (i + 1) w added
     unfolding passed pass_record
     pass_skip q =
-        record { within = omega arith; same_length = m.same_length; goes = λ n. rw (add-one i, ← m.goes n, ← p, q) }
+        record { same_length = m.same_length; goes = λ n. rw (add-one i, ← m.goes n, ← p, q) }
 
     pub pass_next : {v : List ℕ} → b ≡ true → v ≡ marks 1 (set w (reached_column + i) 1) (opened_all h.opens (h.frees i))
-        → Passing h w₀ count (i + 1) v true
+        → Passing h w₀ (i + 1) v true
     unfolding passed pass_record joined
     pass_next {v} q e =
         record {
-          within = omega arith;
           same_length = ap length e ∙ marks_length 1 (set w (reached_column + i) 1) (opened_all h.opens (h.frees i))
               ∙ length-set w (reached_column + i) 1 ∙ m.same_length;
           goes = λ n. rw (add-one i, ← m.goes n, ← p, q, e);
         }
 
-  pub pass_end : {i : ℕ} {w : List ℕ} {added : Bool} → Passing h w₀ count i w added → count ≤ i → h.records ≡ count
+  pub pass_end : {i : ℕ} {w : List ℕ} {added : Bool} → Passing h w₀ i w added → i ≡ h.records
       → (n : ℕ) (b : Bool) → sweeping w (n + 1) added ≡ pass_all h (sweeping w₀ n b)
   unfolding pass_all
-  pass_end {i} {w} {added} m l c n b =
-      let k = m.within in
-      let e : i ≡ h.records = omega arith in
+  pass_end {w = w} {added} m e n b =
       subst (λ j. sweeping w (n + 1) added ≡ passed h j (sweeping w₀ (n + 1) false)) e (m.goes (n + 1))
 
 -- ---- pass after pass

@@ -5,27 +5,26 @@ ghost use Rattle.model.specs.Lists.{any, part};
 ghost use Rattle.model.specs.Reading.{most_names, most_records, most_entries};
 ghost use Rattle.model.specs.Outcome.{working_words};
 ghost use Rattle.records.specs.Columns.{entries_start, entries_end, ask_room};
-ghost use Rattle.macros.specs.Macros.{Filled};
-ghost use Rattle.firing.specs.Tables.{held_of, Laid};
+ghost use Rattle.firing.specs.Tables.{held_in, IsFilled, IsLaid};
 ghost use Rattle.firing.specs.Met.{run_end};
 ghost use Rattle.sweeping.specs.Sweeping.{sweeping, name_met, adds_at, pass_all};
 ghost use Rattle.sweeping.specs.Swept.{met_first, SweptThrough};
 
-use model::{Asked, Counts};
+use firing::tables::RecordTables;
+use model::Asked;
 
-// The words of the run's slice that a sweep writes: by name, from word 0 on, 1 where it is met; by record, from `firing::REACHED`
-// on, 1 where it is reached.
+// The words of the run's slice that a sweep writes: by name, from word 0 on, 1 where it is met; by record, from
+// `firing::REACHED` on, 1 where it is reached.
 const COLUMNS: usize = 3072;
 
 // Whether the name of an entry from `a` up to `e` is met.
+#[tactic(auto, using(crate::proofs::Entries::none_left, crate::proofs::Entries::past_none, crate::proofs::Entries::past_unmet, crate::proofs::Entries::at_met))]
 fn any_met(lists: &[u32], run: &[u32], a: usize, e: usize) -> bool
     requires { (a ≤ e) × (e ≤ length lists.now) × (most_names ≤ length run.now) }
     ensures { result ≡ any (name_met run.now) (part lists.now a e) }
 {
-    let mut i = a;
-    while i < e {
+    for i in a..e {
         let n = words::at(lists, i) % triggers::LAST;
-        i += 1;
         if triggers::NO_NAME <= n {
             continue;
         }
@@ -65,65 +64,50 @@ fn adds(recs: &[u32], lists: &[u32], run: &[u32], a: Asked, i: usize) -> bool
 }
 
 // Clears the columns and meets the names of the records that start.
-fn meet_first(names: &[u32], recs: &[u32], lists: &[u32], run: &mut [u32], k: Counts, a: Asked)
-    requires { Laid names.now recs.now lists.now k × (a.end ≤ ask_room) × (run_end ≤ length run.old) }
-    ensures { run.new ≡ met_first names.now recs.now lists.now k a
-        run.old }
+#[tactic(auto, using(crate::proofs::Loops::meet_start, crate::proofs::Loops::meet_skip, crate::proofs::Loops::first_names))]
+fn meet_first(tables: &RecordTables, run: &mut [u32], a: Asked)
+    requires { IsLaid tables.now × (a.end ≤ ask_room) × (run_end ≤ length run.old) }
+    ensures { run.new ≡ met_first tables.now.names.now tables.now.recs.now tables.now.lists.now tables.now.k a run.old }
 {
     words::clear(run, 0, COLUMNS);
-    let count = k.records;
-    let mut i = 0;
-    while i < count {
-        let j = i;
-        i += 1;
-        if !firing::starts(recs, a, j) {
+    for i in 0..tables.k.records {
+        if !firing::starts(tables.recs, a, i) {
             continue;
         }
-        firing::meet_record(names, recs, lists, run, k, j, 1);
+        tables.meet_record(run, i, 1);
     }
 }
 
 // Passes over the records in line order: one that is added is reached, and its names are met at once. Whether one was added.
-fn pass(names: &[u32], recs: &[u32], lists: &[u32], run: &mut [u32], k: Counts, a: Asked) -> bool
-    requires { Laid names.now recs.now lists.now k × (run_end ≤ length run.old) }
-    ensures { (n : ℕ) (b : Bool) → sweeping run.new (n + 1) result
-        ≡ pass_all (held_of names.now recs.now lists.now k a)
-        (sweeping run.old n b) }
+fn pass(tables: &RecordTables, run: &mut [u32], a: Asked) -> bool
+    requires { IsLaid tables.now × (run_end ≤ length run.old) }
+    ensures { (n : ℕ) (b : Bool) → sweeping run.new (n + 1) result ≡ pass_all (held_in tables.now a) (sweeping run.old n b) }
 {
-    let end = k.records;
+    let end = tables.k.records;
     let mut added = false;
-    let mut next = 0;
-    while next < end {
-        let i = next;
-        next += 1;
-        if !adds(recs, lists, run, a, i) {
+    for i in 0..end {
+        if !adds(tables.recs, tables.lists, run, a, i) {
             continue;
         }
         run[firing::REACHED + i] = 1;
-        firing::meet_record(names, recs, lists, run, k, i, 1);
+        tables.meet_record(run, i, 1);
         added = true;
     }
     added
 }
 
 // Sweeps an ask over the tables that the reader filled, pass after pass to the one that adds no fact; how many passes.
-pub fn sweep_ask(
-    file: &[u8],
-    names: &[u32],
-    recs: &[u32],
-    lists: &[u32],
-    run: &mut [u32],
-    k: Counts,
-    a: Asked,
-) -> usize
-    requires { Filled file.now names.now recs.now lists.now k × (a.end ≤ ask_room) × (run_end ≤ length run.old) }
-    ensures { SweptThrough file.now names.now recs.now lists.now k a
+#[tactic(auto, using(crate::proofs::Loops::first_length, crate::proofs::Loops::on_start, crate::proofs::Loops::on_length))]
+pub fn sweep_ask(file: &[u8], tables: &RecordTables, run: &mut [u32], a: Asked) -> usize
+    requires { IsFilled file.now tables.now × (a.end ≤ ask_room) × (run_end ≤ length run.old) }
+    ensures { SweptThrough file.now tables.now.names.now tables.now.recs.now tables.now.lists.now tables.now.k a
         run.old run.new result }
 {
-    meet_first(names, recs, lists, run, k, a);
+    meet_first(tables, run, a);
     let mut passes = 1;
+    // The last pass is known once it adds no fact, so no range counts them.
     loop {
-        if !pass(names, recs, lists, run, k, a) {
+        if !pass(tables, run, a) {
             return passes;
         }
         passes += 1;

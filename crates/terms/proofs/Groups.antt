@@ -8,7 +8,7 @@ use mathlib.Core.List.Memᴰ
 use mathlib.Core.List.{List, [], ◌∷◌, ◌++◌, map, map-append, Memᴰ, append-nil}
 use mathlib.Core.Bool.{Bool, true, false, cond}
 use mathlib.Core.Logic.{◌⊎◌, inl, inr, ⊎_elim}
-use mathlib.Core.Option
+use Rattle.std.specs.Option as Option
 use lib.ListN.{length, drop, get_or, length-append, get_or-append}
 use lib.Seq.{ext_get_or, get_or_at}
 use lib.Dec.{T, eqb, eqb→eq}
@@ -302,7 +302,7 @@ groups_node (suc (suc (suc (suc (suc (suc zero)))))) op name ws g = refl
 groups_node (suc (suc (suc (suc (suc (suc (suc n))))))) op name ws g = rw (ne_eqb (suc (suc (suc (suc (suc (suc (suc n))))))) 4 (λ e. omega arith))
 
 -- groups by a test are no groups where it does not hold
-groups_when : (b : Bool) (ws : List ℕ) (g : ℕ) → Option.get_or (when b (groups_of_words ws g)) [] ≡ groups_of_words ws (cond b g 0)
+groups_when : (b : Bool) (ws : List ℕ) (g : ℕ) → Option.unwrap_or (when b (groups_of_words ws g)) [] ≡ groups_of_words ws (cond b g 0)
 unfolding when groups_of_words
 groups_when true ws g = refl
 groups_when false ws g = refl
@@ -314,7 +314,7 @@ module _ {refs rows : List ℕ} {used many named : ℕ} (table : Rows refs rows 
   unfolding node_of groups_at
   groups_count {t} l =
       let u = bare_of rows t in
-      ap (λ node. Option.get_or (groups_of node) []) (bare_law name refs rows used many table t l)
-      ∙ ap (λ gs. Option.get_or gs []) (groups_node (row_kind rows u) _ _ _ _)
+      ap (λ node. Option.unwrap_or (groups_of node) []) (bare_law name refs rows used many table t l)
+      ∙ ap (λ gs. Option.unwrap_or gs []) (groups_node (row_kind rows u) _ _ _ _)
       ∙ groups_when (eqb (row_kind rows u) 4) _ (row_extra rows u)
       ∙ ap (λ ws. groups_of_words ws (groups_at rows t)) (part_drop refs (row_start rows u) (row_end rows used many u) 1)

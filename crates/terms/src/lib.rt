@@ -12,7 +12,8 @@ pub const START: usize = 4096;
 
 pub const EXTRA: usize = 8192;
 
-// The kinds of rows.
+// The kinds of rows: numbers and no enum, since a row has its kind as the low three bits of a stored word, by which `kind` of
+// specs/Rows says what it is; an enum would be read out of each word by a `match` and put back by an `as`.
 pub const FREE: usize = 0;
 
 pub const LEAF: usize = 1;
@@ -62,10 +63,7 @@ pub fn has_head(rows: &[u32], t: usize) -> bool
     ensures { result ≡ has_head (row_kind rows.now t) }
 {
     let k = kind(rows, t);
-    if k == FREE {
-        return true;
-    }
-    k == CALL
+    k == FREE || k == CALL
 }
 
 // Where the references of a row start.
@@ -139,12 +137,10 @@ pub fn group_end(refs: &[u32], a: usize, e: usize, g: usize) -> usize
     requires { (a ≤ e) × (e ≤ length refs.now) }
     ensures { result ≡ a + group_run g (part refs.now a e) }
 {
-    let mut i = a;
-    while i < e {
+    for i in a..e {
         if group(refs, i) != g {
             return i;
         }
-        i += 1;
     }
     e
 }

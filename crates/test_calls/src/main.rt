@@ -1,274 +1,168 @@
-// Runs the cases of the further calls on standard input, one after the other, each over slices of its own lengths that hold other
-// words before the call, and prints the answer of each and whether its slices came back as the documents say. The calls that list
-// rows are run by their cores, which leave the rows in words of the run's slice.
+// Runs the cases of the further calls on standard input, one after the other, each over slices of its own lengths that hold
+// other words before the call, and prints the answer of each and whether its slices came back as the documents say. The calls
+// that list rows are run by their cores, which leave the rows in words of the run's slice.
 #![tactic(auto)]
 
-ghost use Rattle.std.specs.Prelude.{◌≤◌, length};
+ghost use Rattle.std.specs.Prelude.{◌≡◌, ◌≤◌, length};
 ghost use Rattle.model.specs.Lists.{sum};
-ghost use Rattle.cases.specs.Heads.{most_file, Sized, Lends};
+ghost use Rattle.cases.specs.declared.TheConstants.{MOST_FILE, MOST_WORK};
+ghost use Rattle.test_calls.specs.declared.TheConstants.{MOST_ROWS};
 
-use cases::{Begun, Sizes};
+use cases::{Case, Lent};
 use model::{Ordered, Swept, Why};
-
-// The bytes of standard input that are held at a time: more than a case can have.
-const WINDOW: usize = 262144;
-
-// The most cases of a run.
-const MOST_CASES: usize = 1000000;
+use std::io;
+use std::io::Write;
 
 // The rows that a working slice of a case can hold.
 const MOST_ROWS: usize = 8200;
 
-// Calls the core of the reasons over slices of a case's lengths.
-fn call_why(
-    file: &[u8],
-    w0: &mut [u32],
-    w1: &mut [u32],
-    w2: &mut [u32],
-    w3: &mut [u32],
-    w4: &mut [u32],
-    w5: &mut [u32],
-    s: Sizes,
-) -> Why
-    requires { Lends w0.old w1.old w2.old w3.old w4.old w5.old s }
+// The rows of a call, of which there are so many, taken out of the run's slice, where zeros stand then.
+fn take_rows(run: &mut [u32], count: usize) -> [u32; cases::MOST_WORK]
+    requires { (length run.old ≡ MOST_WORK) × (count ≤ MOST_ROWS) }
 {
-    let n0 = s.n0;
-    let n1 = s.n1;
-    let n2 = s.n2;
-    let n3 = s.n3;
-    let n4 = s.n4;
-    let n5 = s.n5;
-    explain::explain(
-        file,
-        s.position,
-        &mut w0[..n0],
-        &mut w1[..n1],
-        &mut w2[..n2],
-        &mut w3[..n3],
-        &mut w4[..n4],
-        &mut w5[..n5],
-        s.room,
-    )
+    let mut rows = [0u32; cases::MOST_WORK];
+    words::copy(run, 0, &mut rows, 0, 2 * count);
+    rows::clear_rows(run, count);
+    rows
 }
 
-// Runs a case of the reasons and prints its answer and how the slices came back.
-fn run_why(file: &[u8], s: Sizes)
-    requires { Sized s }
-{
-    let mut w0 = [0u32; cases::MOST_WORK];
-    let mut w1 = [0u32; cases::MOST_WORK];
-    let mut w2 = [0u32; cases::MOST_WORK];
-    let mut w3 = [0u32; cases::MOST_WORK];
-    let mut w4 = [0u32; cases::MOST_WORK];
-    let mut w5 = [0u32; cases::MOST_WORK];
-    cases::soil(&mut w0, 0);
-    cases::soil(&mut w1, 1);
-    cases::soil(&mut w2, 2);
-    cases::soil(&mut w3, 3);
-    cases::soil(&mut w4, 4);
-    cases::soil(&mut w5, 5);
-    let w = call_why(
-        file, &mut w0, &mut w1, &mut w2, &mut w3, &mut w4, &mut w5, s,
+// Runs a case of the reasons and prints its answer and how the slices came back. The lent slices are taken apart here and
+// below, since a call takes six of them at once, which cannot be lent out of one struct.
+fn run_why<W: Write>(writer: &mut W, case: Case<'_>) -> io::Result<()> {
+    let Lent {
+        mut w0,
+        mut w1,
+        mut w2,
+        mut w3,
+        mut w4,
+        mut w5,
+        result,
+    } = Lent::new();
+    let s = case.sizes;
+    let why = explain::explain(
+        case.file,
+        s.position,
+        &mut w0[..s.n0],
+        &mut w1[..s.n1],
+        &mut w2[..s.n2],
+        &mut w3[..s.n3],
+        &mut w4[..s.n4],
+        &mut w5[..s.n5],
+        s.room,
     );
-    let count = w.rows;
-    if MOST_ROWS < count {
-        cases::put(b"too many rows\n");
-        return;
+    if MOST_ROWS < why.rows {
+        return writeln!(writer, "too many rows");
     }
-    let mut told = [0u32; cases::MOST_WORK];
-    words::copy(&w5, 0, &mut told, 0, 2 * count);
-    rows::clear_rows(&mut w5, count);
-    row_printing::print_why(file, w, &told);
-    let v = w.verdict;
-    let zeros = cases::zeros_after(v);
-    cases::put_slices(&w0, &w1, &w2, &w3, &w4, &w5, zeros, true);
+    let rows = take_rows(&mut w5, why.rows);
+    row_printing::print_why(writer, case.file, why, &rows)?;
+    let lent = Lent {
+        w0,
+        w1,
+        w2,
+        w3,
+        w4,
+        w5,
+        result,
+    };
+    lent.print(writer, why.verdict, 0)
 }
 
 // Prints the lines of an answer of the sweep.
-fn print_sweep(file: &[u8], a: Swept, out: &[u32])
-    requires { (length file.now ≤ most_file) × (sum a.kept ≤ length out.now) }
+fn print_sweep<W: Write>(writer: &mut W, file: &[u8], a: Swept, out: &[u32]) -> io::Result<()>
+    requires { (length file.now ≤ MOST_FILE) × (sum a.kept ≤ length out.now) }
 {
     let mut starts = [0u32; cases::MOST_FILE];
     let mut text = [0u8; 131200];
-    printing::print_sweep(file, a, out, &mut starts, &mut text);
-}
-
-// Calls the sweep over slices of a case's lengths.
-fn call_sweep(
-    file: &[u8],
-    w0: &mut [u32],
-    w1: &mut [u32],
-    w2: &mut [u32],
-    w3: &mut [u32],
-    w4: &mut [u32],
-    w5: &mut [u32],
-    out: &mut [u32],
-    s: Sizes,
-) -> Swept
-    requires { Lends w0.old w1.old w2.old w3.old w4.old w5.old s × (s.room ≤ length out.old) }
-    ensures { sum result.kept ≤ length out.new }
-{
-    let n0 = s.n0;
-    let n1 = s.n1;
-    let n2 = s.n2;
-    let n3 = s.n3;
-    let n4 = s.n4;
-    let n5 = s.n5;
-    let room = s.room;
-    sweep::sweep(
-        file,
-        &mut w0[..n0],
-        &mut w1[..n1],
-        &mut w2[..n2],
-        &mut w3[..n3],
-        &mut w4[..n4],
-        &mut w5[..n5],
-        &mut out[..room],
-    )
+    printing::print_sweep(writer, file, a, out, &mut starts, &mut text)
 }
 
 // Runs a case of the sweep and prints its answer and how the slices came back.
-fn run_sweep(file: &[u8], s: Sizes)
-    requires { (length file.now ≤ most_file) × Sized s }
-{
-    let mut w0 = [0u32; cases::MOST_WORK];
-    let mut w1 = [0u32; cases::MOST_WORK];
-    let mut w2 = [0u32; cases::MOST_WORK];
-    let mut w3 = [0u32; cases::MOST_WORK];
-    let mut w4 = [0u32; cases::MOST_WORK];
-    let mut w5 = [0u32; cases::MOST_WORK];
-    let mut out = [0u32; cases::MOST_ROOM];
-    cases::soil(&mut w0, 0);
-    cases::soil(&mut w1, 1);
-    cases::soil(&mut w2, 2);
-    cases::soil(&mut w3, 3);
-    cases::soil(&mut w4, 4);
-    cases::soil(&mut w5, 5);
-    cases::soil(&mut out, 6);
-    let a = call_sweep(
-        file, &mut w0, &mut w1, &mut w2, &mut w3, &mut w4, &mut w5, &mut out, s,
+fn run_sweep<W: Write>(writer: &mut W, case: Case<'_>) -> io::Result<()> {
+    let Lent {
+        mut w0,
+        mut w1,
+        mut w2,
+        mut w3,
+        mut w4,
+        mut w5,
+        mut result,
+    } = Lent::new();
+    let s = case.sizes;
+    let a = sweep::sweep(
+        case.file,
+        &mut w0[..s.n0],
+        &mut w1[..s.n1],
+        &mut w2[..s.n2],
+        &mut w3[..s.n3],
+        &mut w4[..s.n4],
+        &mut w5[..s.n5],
+        &mut result[..s.room],
     );
-    print_sweep(file, a, &out);
-    let counts = a.kept;
-    let kept = printing::sum_counts(counts);
-    let v = a.verdict;
-    let zeros = cases::zeros_after(v);
-    let result = cases::is_left_from(&out, 6, kept);
-    cases::put_slices(&w0, &w1, &w2, &w3, &w4, &w5, zeros, result);
-}
-
-// Calls the core of the check over slices of a case's lengths.
-fn call_order(
-    file: &[u8],
-    w0: &mut [u32],
-    w1: &mut [u32],
-    w2: &mut [u32],
-    w3: &mut [u32],
-    w4: &mut [u32],
-    w5: &mut [u32],
-    s: Sizes,
-) -> Ordered
-    requires { Lends w0.old w1.old w2.old w3.old w4.old w5.old s }
-{
-    let n0 = s.n0;
-    let n1 = s.n1;
-    let n2 = s.n2;
-    let n3 = s.n3;
-    let n4 = s.n4;
-    let n5 = s.n5;
-    precedence::check_order(
-        file,
-        &mut w0[..n0],
-        &mut w1[..n1],
-        &mut w2[..n2],
-        &mut w3[..n3],
-        &mut w4[..n4],
-        &mut w5[..n5],
-        s.room,
-    )
+    print_sweep(writer, case.file, a, &result)?;
+    let kept = printing::sum_counts(a.kept);
+    let lent = Lent {
+        w0,
+        w1,
+        w2,
+        w3,
+        w4,
+        w5,
+        result,
+    };
+    lent.print(writer, a.verdict, kept)
 }
 
 // Runs a case of the check and prints its answer and how the slices came back.
-fn run_order(file: &[u8], s: Sizes)
-    requires { Sized s }
-{
-    let mut w0 = [0u32; cases::MOST_WORK];
-    let mut w1 = [0u32; cases::MOST_WORK];
-    let mut w2 = [0u32; cases::MOST_WORK];
-    let mut w3 = [0u32; cases::MOST_WORK];
-    let mut w4 = [0u32; cases::MOST_WORK];
-    let mut w5 = [0u32; cases::MOST_WORK];
-    cases::soil(&mut w0, 0);
-    cases::soil(&mut w1, 1);
-    cases::soil(&mut w2, 2);
-    cases::soil(&mut w3, 3);
-    cases::soil(&mut w4, 4);
-    cases::soil(&mut w5, 5);
-    let o = call_order(
-        file, &mut w0, &mut w1, &mut w2, &mut w3, &mut w4, &mut w5, s,
+fn run_order<W: Write>(writer: &mut W, case: Case<'_>) -> io::Result<()> {
+    let Lent {
+        mut w0,
+        mut w1,
+        mut w2,
+        mut w3,
+        mut w4,
+        mut w5,
+        result,
+    } = Lent::new();
+    let s = case.sizes;
+    let order = precedence::check_order(
+        case.file,
+        &mut w0[..s.n0],
+        &mut w1[..s.n1],
+        &mut w2[..s.n2],
+        &mut w3[..s.n3],
+        &mut w4[..s.n4],
+        &mut w5[..s.n5],
+        s.room,
     );
-    let count = o.rows;
-    if MOST_ROWS < count {
-        cases::put(b"too many rows\n");
-        return;
+    if MOST_ROWS < order.rows {
+        return writeln!(writer, "too many rows");
     }
-    let mut told = [0u32; cases::MOST_WORK];
-    words::copy(&w5, 0, &mut told, 0, 2 * count);
-    rows::clear_rows(&mut w5, count);
-    row_printing::print_order(file, o, &told);
-    let v = o.verdict;
-    let zeros = cases::zeros_after(v);
-    cases::put_slices(&w0, &w1, &w2, &w3, &w4, &w5, zeros, true);
+    let rows = take_rows(&mut w5, order.rows);
+    row_printing::print_order(writer, case.file, order, &rows)?;
+    let lent = Lent {
+        w0,
+        w1,
+        w2,
+        w3,
+        w4,
+        w5,
+        result,
+    };
+    lent.print(writer, order.verdict, 0)
 }
 
 // Runs a case by the first word of its head line.
-fn run(head: &[u8], file: &[u8], s: Sizes)
-    requires { (length file.now ≤ most_file) × Sized s }
-{
-    let word = text::find(head, b',', 0, head.len());
-    if text::same_text(head, 0, word, b"why") {
-        run_why(file, s);
-        return;
-    }
-    if text::same_text(head, 0, word, b"sweep") {
-        run_sweep(file, s);
-        return;
-    }
-    if text::same_text(head, 0, word, b"order") {
-        run_order(file, s);
-        return;
-    }
-    cases::put(b"no such call\n");
-}
-
-// Runs the case at the start of the window; where the next one starts, or the end of the window where there is no case.
-fn one_case(window: &[u8]) -> usize
-    ensures { result ≤ length window.now }
-{
-    match cases::begin_case(window) {
-        Begun::At(c) => {
-            let start = c.start;
-            let end = c.end;
-            let s = c.sizes;
-            run(&window[..start], &window[start..end], s);
-            end
-        }
-        Begun::Nothing => window.len(),
+fn run<W: Write>(writer: &mut W, case: Case<'_>) -> io::Result<()> {
+    match case.call {
+        b"why" => run_why(writer, case),
+        b"sweep" => run_sweep(writer, case),
+        b"order" => run_order(writer, case),
+        _ => writeln!(writer, "no such call"),
     }
 }
 
 // Runs the cases of standard input.
-fn main() {
-    let mut window = [0u8; WINDOW];
-    let mut from: usize = 0;
-    let mut to: usize = 0;
-    let mut left: usize = MOST_CASES;
-    while 0 < left {
-        to = cases::refill(&mut window, from, to);
-        if to == 0 {
-            return;
-        }
-        from = one_case(&window[..to]);
-        left -= 1;
-    }
+fn main(rt: HostRuntime) {
+    // Where standard output cannot be written, nothing more can be said.
+    let _ = cases::run_all(&mut rt.stdin(), &mut rt.stdout(), run);
 }

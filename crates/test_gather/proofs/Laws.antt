@@ -10,7 +10,7 @@ use lib.Seq.{get_or-set_other}
 use Rattle.model.specs.Names.{Name}
 use Rattle.model.specs.Terms.{Node}
 use Rattle.model.proofs.ListLaws.{zero_at}
-use Rattle.additions.specs.declared.Added.{Added}
+use Rattle.additions.specs.Additions.{Addition}
 use Rattle.additions.specs.Additions.{with_row, references_pushed, Patterns, AddsTerm}
 use Rattle.gather.specs.Sets.{Fresh}
 use Rattle.terms.proofs.Laws.{equal}
@@ -76,7 +76,7 @@ row_blank many word start extra h b =
     set_blank (8192 + many) extra (omega arith) (set_blank (4096 + many) start (omega arith) (set_blank many word (omega arith) b))
 
 -- a table with one row more
-pub table_added : {refs rows rows' : List ℕ} {start used many word extra : ℕ} {node : (ℕ → Name) → Node} {r : Added} → many < 4096 → UnmarkedTable refs rows start used many
+pub table_added : {refs rows rows' : List ℕ} {start used many word extra : ℕ} {node : (ℕ → Name) → Node} {r : Addition} → many < 4096 → UnmarkedTable refs rows start used many
     → AddsTerm refs rows rows' start used many 2048 word extra node r → UnmarkedTable refs rows' used used (many + 1)
 table_added {rows = rows} {start = start} {many = many} {word = word} {extra} l t a = record {
   behind = pushed_none (a.table l);

@@ -5,23 +5,15 @@
 ghost use Rattle.std.specs.Prelude.{◌+◌, ◌≤◌, ◌<◌, length};
 ghost use Rattle.test_gather.specs.Tables.{Blank, UnmarkedTable};
 
-use gather::Walked;
-
-// Standard output.
-const STDOUT: i32 = 1;
+use std::io;
+use std::io::Write;
 
 // Prints a line: the name of the table, and how many names were gathered or that there was no room.
-fn show(label: &[u8], walked: Walked) {
-    io::write_all(STDOUT, label);
+fn show<W: Write>(out: &mut W, label: &str, walked: Option<usize>) -> io::Result<()> {
     match walked {
-        Walked::Names(n) => {
-            io::print_decimal(STDOUT, n as u64);
-        }
-        Walked::Full => {
-            io::write_all(STDOUT, b"full");
-        }
+        Some(n) => writeln!(out, "{label} {n}"),
+        None => writeln!(out, "{label} full"),
     }
-    io::write_all(STDOUT, b"\n");
 }
 
 // Pushes so many references to a term.
@@ -37,10 +29,8 @@ fn push_times(
     requires { UnmarkedTable refs.old rows.now start used many × (used + times ≤ 16384) × (0 < times → to < many) }
     ensures { UnmarkedTable refs.new rows.now start (used + times) many }
 {
-    let mut i = 0;
-    while i < times {
-        additions::push(refs, used + i, to, 0);
-        i += 1;
+    for i in 0..times {
+        let _ = additions::push(refs, used + i, to, 0);
     }
 }
 
@@ -49,10 +39,10 @@ fn add_free(refs: &[u32], rows: &mut [u32], used: usize, many: usize, head: usiz
     requires { UnmarkedTable refs.now rows.old used used many × (many < 4096) × (head < 2048) }
     ensures { UnmarkedTable refs.now rows.new used used (many + 1) }
 {
-    additions::add_free(refs, rows, used, many, 2048, head);
+    let _ = additions::add_free(refs, rows, used, many, 2048, head);
 }
 
-// Adds a call with so many references to a term, or an op where the head is not the number of a name.
+// Adds a call with so many references to a term, or an op where the head is not the number of a name, as a row has it.
 fn add_row_of(
     refs: &mut [u32],
     rows: &mut [u32],
@@ -67,10 +57,10 @@ fn add_row_of(
 {
     push_times(refs, rows, used, used, many, to, times);
     if head < 2048 {
-        additions::add_call(refs, rows, used, used + times, many, 2048, head);
+        let _ = additions::add_call(refs, rows, used, used + times, many, 2048, head);
         return;
     }
-    additions::add_op(refs, rows, used, used + times, many, 2048, 4);
+    let _ = additions::add_op(refs, rows, used, used + times, many, 2048, 4);
 }
 
 // Adds an `all` with a body and one group of one term.
@@ -87,7 +77,7 @@ fn add_all(
 {
     push_times(refs, rows, used, used, many, body, 1);
     push_times(refs, rows, used, used + 1, many, pattern, 1);
-    additions::add_all(refs, rows, used, used + 2, many, 2048, 1);
+    let _ = additions::add_all(refs, rows, used, used + 2, many, 2048, 1);
 }
 
 // Adds the rows up to 4,096 to a table of one row, each with so many references to the row before, and its own number
@@ -97,11 +87,9 @@ fn add_rows(refs: &mut [u32], rows: &mut [u32], head: usize, times: usize) -> us
     ensures { UnmarkedTable refs.new rows.new result result 4096 }
 {
     let mut n = 0;
-    let mut t = 1;
-    while t < 4096 {
+    for t in 1..4096 {
         add_row_of(refs, rows, n, t, head + t, t - 1, times);
         n += times;
-        t += 1;
     }
     n
 }
@@ -135,83 +123,63 @@ fn build(shape: Shape, refs: &mut [u32], rows: &mut [u32]) -> Size
 {
     add_free(refs, rows, 0, 0, 0);
     match shape {
-        Shape::Deep => {
-            let used = add_rows(refs, rows, 2048, 2);
-            return Size {
-                used: used,
-                many: 4096,
-            };
-        }
-        Shape::Chain => {
-            let used = add_rows(refs, rows, 0, 1);
-            return Size {
-                used: used,
-                many: 4096,
-            };
-        }
+        Shape::Deep => Size {
+            used: add_rows(refs, rows, 2048, 2),
+            many: 4096,
+        },
+        Shape::Chain => Size {
+            used: add_rows(refs, rows, 0, 1),
+            many: 4096,
+        },
         Shape::Wide => {
             add_row_of(refs, rows, 0, 1, 2048, 0, 16384);
-            return Size {
+            Size {
                 used: 16384,
                 many: 2,
-            };
+            }
         }
         Shape::Call => {
             add_row_of(refs, rows, 0, 1, 5, 0, 1);
-            return Size { used: 1, many: 2 };
+            Size { used: 1, many: 2 }
         }
         Shape::Patterns => {
             add_free(refs, rows, 0, 1, 1);
             add_all(refs, rows, 0, 2, 0, 1);
-            return Size { used: 2, many: 3 };
+            Size { used: 2, many: 3 }
         }
     }
 }
 
-// Gathers the names of the last term, with room for so many, and prints what this comes to.
-fn show_term(
-    label: &[u8],
+// Gathers the names of the last term, with room for so many.
+fn gather_last(
     names: &mut [u32],
     refs: &[u32],
     rows: &mut [u32],
-    used: usize,
-    many: usize,
+    size: Size,
     room: usize,
-)
-    requires { Blank 8192 names.old × UnmarkedTable refs.now rows.old used used many × (0 < many) × (room ≤ 2048) }
+) -> Option<usize>
+    requires { Blank 8192 names.old × UnmarkedTable refs.now rows.old size.used size.used size.many × (0 < size.many) × (room ≤ 2048) }
 {
     let mut lists = [0u32; 2048];
-    let t = many - 1;
-    show(
-        label,
-        gather::gather_term(
-            names, refs, rows, &mut lists, 2048, used, many, t, 1, 0, room,
-        ),
-    );
+    let t = size.many - 1;
+    gather::gather_term(
+        names, refs, rows, &mut lists, 2048, size.used, size.many, t, 1, 0, room,
+    )
 }
 
-// Gathers the names of all references, and prints what this comes to.
-fn show_list(
-    label: &[u8],
-    names: &mut [u32],
-    refs: &[u32],
-    rows: &mut [u32],
-    used: usize,
-    many: usize,
-)
-    requires { Blank 8192 names.old × UnmarkedTable refs.now rows.old used used many }
+// Gathers the names of all references.
+fn gather_all(names: &mut [u32], refs: &[u32], rows: &mut [u32], size: Size) -> Option<usize>
+    requires { Blank 8192 names.old × UnmarkedTable refs.now rows.old size.used size.used size.many }
 {
     let mut lists = [0u32; 2048];
-    show(
-        label,
-        gather::gather_list(
-            names, refs, rows, &mut lists, 2048, used, many, 0, used, 1, 0, 2048,
-        ),
-    );
+    gather::gather_list(
+        names, refs, rows, &mut lists, 2048, size.used, size.many, 0, size.used, 1, 0, 2048,
+    )
 }
 
-// Builds a table, with the word of a head code for name 5, and gathers the names of its references or of its last term.
-fn run(label: &[u8], shape: Shape, code: u32, listed: bool, room: usize)
+// Builds a table, with the word of a head code for name 5, and gathers the names of its references or, with room for so many,
+// of its last term.
+fn walked(shape: Shape, code: u32, listed: bool, room: usize) -> Option<usize>
     requires { room ≤ 2048 }
 {
     let mut names = [0u32; 16384];
@@ -219,28 +187,27 @@ fn run(label: &[u8], shape: Shape, code: u32, listed: bool, room: usize)
     let mut rows = [0u32; 16384];
     names[names::CODE + 5] = code;
     let size = build(shape, &mut refs, &mut rows);
-    let used = size.used;
-    let many = size.many;
     if listed {
-        show_list(label, &mut names, &refs, &mut rows, used, many);
-        return;
+        gather_all(&mut names, &refs, &mut rows, size)
+    } else {
+        gather_last(&mut names, &refs, &mut rows, size, room)
     }
-    show_term(label, &mut names, &refs, &mut rows, used, many, room);
 }
 
 // One line for each table; in the sixth name 5 is excluded.
-fn main() {
-    run(b"deep ", Shape::Deep, 0, false, 2048);
-    run(b"chain ", Shape::Chain, 0, false, 2048);
-    run(b"chain ", Shape::Chain, 0, false, 2047);
-    run(b"wide ", Shape::Wide, 0, false, 2048);
-    run(b"list ", Shape::Wide, 0, true, 2048);
-    run(
-        b"excluded ",
-        Shape::Call,
-        names::EXCLUDED_MARK as u32,
-        false,
-        2048,
-    );
-    run(b"patterns ", Shape::Patterns, 0, false, 2048);
+fn show_all<W: Write>(out: &mut W) -> io::Result<()> {
+    let excluded = names::EXCLUDED_MARK as u32;
+    show(out, "deep", walked(Shape::Deep, 0, false, 2048))?;
+    show(out, "chain", walked(Shape::Chain, 0, false, 2048))?;
+    show(out, "chain", walked(Shape::Chain, 0, false, 2047))?;
+    show(out, "wide", walked(Shape::Wide, 0, false, 2048))?;
+    show(out, "list", walked(Shape::Wide, 0, true, 2048))?;
+    show(out, "excluded", walked(Shape::Call, excluded, false, 2048))?;
+    show(out, "patterns", walked(Shape::Patterns, 0, false, 2048))
+}
+
+// Prints to standard output.
+fn main(rt: HostRuntime) {
+    // Where standard output cannot be written, nothing more can be said.
+    let _ = show_all(&mut rt.stdout());
 }

@@ -4,8 +4,8 @@ use mathlib.Core.Path.{◌≡◌}
 use mathlib.Core.List.{List}
 use lib.ListN.{length}
 use Rattle.model.specs.Lists.{part}
-use Rattle.text.specs.declared.Cursor.{Cursor}
-use Rattle.text.specs.declared.FieldStep.TheVariants as field
+use Rattle.std.specs.Prelude.{Ok}
+use Rattle.text.specs.declared.Part.{Part}
 use Rattle.text.specs.Parts.{name_at}
 use Rattle.text.proofs.Laws.{Stepped, name_next}
 use Rattle.names.specs.declared.Spelled.{Spelled}
@@ -14,10 +14,10 @@ use Rattle.names.proofs.Spelling.{Spelling, known, new, full, spell_law}
 use Rattle.test_names.specs.Counts.{count_after}
 
 -- a name that is read in a part of the file was read there
-pub name_within : {file w : List ℕ} {named : ℕ} → Table file w named → (a e : ℕ) → e ≤ length file → (b f : ℕ) (n : Cursor)
-    → name_at file (record { at = a; end = e }) ≡ field.Part b f n → Stepped file (record { at = a; end = e }) b f n
-name_within {file} table a e inside b f n h =
-    (name_next file (record { at = a; end = e }) (record { inside = inside; short = table.short }) b f n h).0
+pub name_within : {file w : List ℕ} {named : ℕ} → Table file w named → (a e : ℕ) → e ≤ length file → (f : Part)
+    → name_at file (record { at = a; end = e }) ≡ Ok f → Stepped file (record { at = a; end = e }) f
+name_within {file} table a e inside f h =
+    (name_next file (record { at = a; end = e }) (record { inside = inside; short = table.short }) f h).0
 
 -- a spelling leaves a table
 spelled_table : {file w w' : List ℕ} {named a e : ℕ} {r : Spelled} → Table file w named → Spelling file w w' named a e r → Table file w' (count_after named r)

@@ -3,39 +3,26 @@
 // table. Of a long table only some ranks are printed.
 #![tactic(auto)]
 
-ghost use Rattle.std.specs.Prelude.{◌≤◌, ◌<◌, ◌≡◌, length};
+ghost use Rattle.std.specs.Prelude.{◌≤◌, ◌<◌, ◌≡◌, length, IfOk};
 ghost use Rattle.model.specs.Reading.{most_names};
 ghost use Rattle.text.specs.Parts.{Placed};
 ghost use Rattle.names.specs.Table.{Table};
 ghost use Rattle.test_names.specs.Counts.{count_after};
 
 use names::Spelled;
-use text::{Cursor, FieldStep};
-
-// Standard input and output.
-const STDIN: i32 = 0;
-
-const STDOUT: i32 = 1;
-
-// Writes bytes.
-fn put(bytes: &[u8]) {
-    io::write_all(STDOUT, bytes);
-}
-
-// Writes a number in decimal digits.
-fn put_number(n: usize) {
-    io::print_decimal(STDOUT, n as u64);
-}
+use std::io;
+use std::io::Write;
+use text::Cursor;
 
 // How many names the table has after a spelling.
+#[tactic(auto, unfolding(crate::specs::Counts::count_after))]
 fn grown(s: Spelled, named: usize) -> usize
     requires { named ≤ most_names }
     ensures { result ≡ count_after named s }
 {
     match s {
-        Spelled::Known(_) => named,
         Spelled::New(_) => named + 1,
-        Spelled::Full => named,
+        Spelled::Known(_) | Spelled::Full => named,
     }
 }
 
@@ -46,15 +33,11 @@ fn one_field(file: &[u8], table: &mut [u32], named: usize, start: usize, end: us
 {
     let c = Cursor { at: start, end };
     match c.name(file) {
-        FieldStep::Part {
-            start,
-            end,
-            next: _,
-        } => {
-            let s = names::spell(file, table, named, start, end);
+        Ok(part) => {
+            let s = names::spell(file, table, named, part.start, part.end);
             grown(s, named)
         }
-        FieldStep::Refused(_) => named,
+        Err(_) => named,
     }
 }
 
@@ -81,13 +64,14 @@ fn all_fields(file: &[u8], table: &mut [u32], named: usize, from: Cursor) -> usi
 {
     let mut known = named;
     let mut c = from;
+    // Where a field ends is known once it is read, so no range counts the turns.
     while c.at <= c.end {
         match c.field(file) {
-            FieldStep::Part { start, end, next } => {
-                known = field_and_token(file, table, known, start, end);
-                c = next;
+            Ok(part) => {
+                known = field_and_token(file, table, known, part.start, part.end);
+                c = part.next;
             }
-            FieldStep::Refused(_) => {
+            Err(_) => {
                 return known;
             }
         }
@@ -96,65 +80,76 @@ fn all_fields(file: &[u8], table: &mut [u32], named: usize, from: Cursor) -> usi
 }
 
 // Prints the name of a number, with its head code.
-fn put_name(file: &[u8], table: &[u32], named: usize, n: usize)
+fn put_name<W: Write>(
+    out: &mut W,
+    file: &[u8],
+    table: &[u32],
+    named: usize,
+    n: usize,
+) -> io::Result<()>
     requires { Table file.now table.now named × (n < named) }
 {
-    put_number(n);
-    put(b" ");
-    put(names::name_part(file, table, named, n));
-    put(b" ");
-    put_number(names::code_at(table, n));
-    put(b"\n");
+    write!(out, "{n} ")?;
+    out.write_all(names::name_part(file, table, named, n))?;
+    let code = names::code_at(table, n);
+    writeln!(out, " {code}")
 }
 
 // Prints the names in byte order.
-fn put_index(file: &[u8], table: &[u32], named: usize)
+fn put_index<W: Write>(out: &mut W, file: &[u8], table: &[u32], named: usize) -> io::Result<()>
     requires { Table file.now table.now named }
 {
-    put(b"names ");
-    put_number(named);
-    put(b"\n");
-    let mut r: usize = 0;
-    while r < named {
+    writeln!(out, "names {named}")?;
+    for r in 0..named {
         if named < 120 || r % 256 == 255 {
-            put_name(file, table, named, words::at(table, names::INDEX + r));
+            put_name(out, file, table, named, words::at(table, names::INDEX + r))?;
         }
-        r += 1;
     }
+    Ok(())
 }
 
 // One line: its fields, or a new table; answers how many names the table then has.
-fn one_line(file: &[u8], table: &mut [u32], named: usize, start: usize, end: usize) -> usize
+fn one_line<W: Write>(
+    out: &mut W,
+    file: &[u8],
+    table: &mut [u32],
+    named: usize,
+    start: usize,
+    end: usize,
+) -> io::Result<usize>
     requires { Table file.now table.old named × (start ≤ end) × (end ≤ length file.now) }
-    ensures { Table file.now table.new result }
+    ensures { IfOk result (λ known. Table file.now table.new known) }
 {
     if text::same_text(file, start, end, b"=") {
-        put_index(file, table, named);
-        return 0;
+        put_index(out, file, table, named)?;
+        return Ok(0);
     }
-    all_fields(file, table, named, Cursor { at: start, end })
+    Ok(all_fields(file, table, named, Cursor { at: start, end }))
 }
 
 // All lines, from a table without names.
-fn all_lines(file: &[u8], table: &mut [u32])
+fn all_lines<W: Write>(out: &mut W, file: &[u8], table: &mut [u32]) -> io::Result<()>
     requires { Table file.now table.old 0 }
 {
     let mut named: usize = 0;
     let mut from: usize = 0;
+    // Names stand in the table by their places in the file, so a line is a place and no slice of its own.
     while from < file.len() {
         let end = text::find(file, b'\n', from, file.len());
-        named = one_line(file, table, named, from, end);
+        named = one_line(out, file, table, named, from, end)?;
         from = end + 1;
     }
+    Ok(())
 }
 
 // Reads standard input; more than 65,535 bytes are not looked at.
-fn main() {
-    let mut file = io::large_buffer();
-    let n = io::read_full(STDIN, &mut file);
+fn main(rt: HostRuntime) {
+    let mut file = [0u8; 65536];
+    let n = cases::read_full(&mut rt.stdin(), &mut file);
     if model::MOST_BYTES < n {
         return;
     }
     let mut table = [0u32; 16384];
-    all_lines(&file[..n], &mut table);
+    // Where standard output cannot be written, nothing more can be said.
+    let _ = all_lines(&mut rt.stdout(), &file[..n], &mut table);
 }

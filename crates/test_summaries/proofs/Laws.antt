@@ -10,9 +10,8 @@ use Rattle.model.specs.declared.Counts.{Counts}
 use Rattle.model.proofs.ListLaws.{zero_at}
 use Rattle.model.proofs.PartLaws.{part_length}
 use Rattle.macros.specs.Macros.{Filled}
-use Rattle.reader.specs.declared.Reading.{Reading}
-use Rattle.reader.specs.declared.Reading.TheVariants as answer
-use Rattle.reader.specs.Lines.{TablesCleared, ReadsFile, all_read}
+use Rattle.std.specs.Prelude.{Ok}
+use Rattle.reader.specs.Lines.{FileOutcome, TablesCleared, ReadsFile, all_read}
 
 -- a part of a short input is short
 pub part_short : (input : List ℕ) (a e : ℕ) → e ≤ length input → length input ≤ most_bytes → length (part input a e) ≤ most_bytes
@@ -40,9 +39,9 @@ zeros_cleared short = record {
 }
 
 -- a file that is read fills the tables
-pub read_filled : {file names refs rows recs lists : List ℕ} {k : Counts} {r : Reading} → ReadsFile file names refs rows recs lists r → r ≡ answer.Read k
+pub read_filled : {file names refs rows recs lists : List ℕ} {k : Counts} {r : FileOutcome} → ReadsFile file names refs rows recs lists r → r ≡ Ok k
     → Filled file names recs lists k
 read_filled {file} {names} {refs} {rows} {recs} {lists} {k} s p = go (rw p at s)
   where
-    go : ReadsFile file names refs rows recs lists (answer.Read k) → Filled file names recs lists k
+    go : ReadsFile file names refs rows recs lists (Ok k) → Filled file names recs lists k
     go (all_read e f) = f

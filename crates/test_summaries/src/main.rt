@@ -5,13 +5,11 @@
 ghost use Rattle.std.specs.Prelude.{◌≤◌, length};
 ghost use Rattle.model.specs.Outcome.{most_bytes};
 
-use reader::Reading;
-
-// Standard input.
-const STDIN: i32 = 0;
+use std::io;
+use std::io::Write;
 
 // Reads one file into new tables.
-fn one_file(file: &[u8])
+fn one_file<W: Write>(out: &mut W, file: &[u8]) -> io::Result<()>
     requires { length file.now ≤ most_bytes }
 {
     let mut names = [0u32; model::WORKING_WORDS];
@@ -22,12 +20,10 @@ fn one_file(file: &[u8])
     match reader::read_file(
         file, &mut names, &mut refs, &mut rows, &mut recs, &mut lists,
     ) {
-        Reading::Read(k) => {
-            summary_printing::put_facts(file, &names, &refs, &rows, &recs, &lists, k, false);
-        }
-        Reading::Refused(_, line) => {
-            printing::print_count(b"stop", line);
-        }
+        Ok(k) => summary_printing::put_facts(
+            out, file, &names, &refs, &rows, &recs, &lists, k, false,
+        ),
+        Err(refused) => printing::print_count(out, b"stop", refused.place as usize),
     }
 }
 
@@ -37,6 +33,7 @@ fn next_ask(input: &[u8], start: usize) -> usize
     ensures { (start ≤ result) × (result ≤ length input.now) }
 {
     let mut from = start;
+    // Where a line ends is known once it is looked at, so no range counts the turns.
     while from < input.len() {
         let end = text::find(input, b'\n', from, input.len());
         let stop = text::find(input, b',', from, end);
@@ -49,27 +46,30 @@ fn next_ask(input: &[u8], start: usize) -> usize
 }
 
 // Reads each file, from one `ask` line up to the next.
-fn all_files(input: &[u8])
+fn all_files<W: Write>(out: &mut W, input: &[u8]) -> io::Result<()>
     requires { length input.now ≤ most_bytes }
 {
     let mut from = 0;
+    // Where a file ends is known once the next one is found, so no range counts the turns.
     while from < input.len() {
         let end = text::find(input, b'\n', from, input.len());
         let mut upto = input.len();
         if end < input.len() {
             upto = next_ask(input, end + 1);
         }
-        one_file(&input[from..upto]);
+        one_file(out, &input[from..upto])?;
         from = upto;
     }
+    Ok(())
 }
 
 // Reads standard input; more than 65,535 bytes are not looked at.
-fn main() {
-    let mut input = io::large_buffer();
-    let n = io::read_full(STDIN, &mut input);
+fn main(rt: HostRuntime) {
+    let mut input = [0u8; 65536];
+    let n = cases::read_full(&mut rt.stdin(), &mut input);
     if model::MOST_BYTES < n {
         return;
     }
-    all_files(&input[..n]);
+    // Where standard output cannot be written, nothing more can be said.
+    let _ = all_files(&mut rt.stdout(), &input[..n]);
 }

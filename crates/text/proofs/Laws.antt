@@ -1,32 +1,32 @@
 -- What the functions of this crate rest on, said of plain lists: parts of a file, the first mark in one, fields, names, numbers, byte order, lines.
-use Prim.Native.Nat.{ℕ, zero, suc, ◌+◌, ◌-◌, ◌*◌, ◌≤◌, ◌<◌, zero-le, suc-le-suc, compare, Ordering}
+use Prim.Native.Nat.{ℕ, zero, suc, ◌+◌, ◌-◌, ◌*◌, ◌≤◌, ◌<◌, min, zero-le, suc-le-suc, compare, Ordering}
 use native.Mathlib.Numerals.{one-add}
 use native.Mathlib.Nat.{zero-add, add-zero, not-suc-le-zero}
 use native.Mathlib.Omega.{arith}
 use mathlib.Core.Path.{◌≡◌, refl, sym, ap, ap₂, ◌∙◌}
 use mathlib.Core.Logic.{◌↔◌}
-use mathlib.Core.Bool.{Bool, true, false, cond, and-true, and-false, true≢false, false≢true}
+use mathlib.Core.Bool.{Bool, true, false, cond, ◌&&◌, and-true, and-false, true≢false, false≢true}
 use mathlib.Core.List.{List, [], ◌∷◌}
-use mathlib.Core.Option.{Option, none, some}
+use Rattle.std.specs.Prelude.{Option, None as none, Some as some, Ok, Err, Result as Outcome}
 use lib.ListN.{length, take, drop, get_or, length-take, length-drop, drop_of_length-le}
 use lib.Seq.{drop-drop}
+use lib.Pointwise.{pointwise}
+use Rattle.std.specs.Ordering.{nat_cmp, MatchOrdering}
+use Rattle.std.proofs.lemmas.Cmp.{ranked}
 use lib.Dec.{leb, ltb, eqb, is_le, compare_is_eq}
 use borrow.Author.Tests.{eq-eqb, ne_eqb, eqb-true, le-leb, lt-leb, lt-ltb, le-ltb, ltb-true, leb-true, leb-false}
 use Rattle.model.specs.Lists.{all, when, ◌>>=◌, part}
 use Rattle.model.specs.Names.{Name, order, by_byte, same, is_same, starts_with, ends_with}
 use Rattle.model.specs.Lines.{Line, lines, line_cons, Field, fields, field_cons, is_name_byte, is_name, is_digit, decimal, number}
 use Rattle.model.specs.Reading.{Result, ok, refused, need, name_field, number_field, term_field, next, ◌>>=◌ as ◌>>=ᴿ◌}
-use Rattle.model.specs.declared.Order.{Order}
-use Rattle.model.specs.declared.Order.TheVariants.{Before, Same, After}
+use Rattle.std.specs.declared.cmp.Ordering.{Ordering as Order}
+use Rattle.std.specs.declared.cmp.Ordering.TheVariants.{Less as Before, Equal as Same, Greater as After}
 use Rattle.model.specs.declared.Refusal.{Refusal}
 use Rattle.model.specs.declared.Refusal.TheVariants as refusal
 use Rattle.model.proofs.PartLaws.{part_all, part_cons, part_drop, part_length, part_nil, part_rest, part_take}
 use Rattle.text.specs.declared.Comparison.{Comparison}
 use Rattle.text.specs.declared.Cursor.{Cursor}
-use Rattle.text.specs.declared.FieldStep.{FieldStep}
-use Rattle.text.specs.declared.FieldStep.TheVariants as field
-use Rattle.text.specs.declared.NumberStep.{NumberStep}
-use Rattle.text.specs.declared.NumberStep.TheVariants as numbered
+use Rattle.text.specs.declared.Part.{Part}
 use Rattle.text.specs.Parts.{before, mark_at, shared, comparison, Placed, fields_left, field_at, as_name, sized_name, name_at, valued, at_most, as_number, number_at, as_term, term_at, field_result, number_result}
 
 -- ---- parts
@@ -273,6 +273,19 @@ by_rest Ordering.lt rest p = refl
 by_rest Ordering.eq rest p = p
 by_rest Ordering.gt rest p = refl
 
+-- two names are the same where std's comparison of slices says so
+pub same_pointwise : (n m : Name) → pointwise eqb n m ≡ same n m
+unfolding same order is_same by_byte
+same_pointwise [] [] = refl
+same_pointwise [] (c ∷ m) = refl
+same_pointwise (a ∷ n) [] = refl
+same_pointwise (a ∷ n) (c ∷ m) = go (compare a c) (same_pointwise n m)
+  where
+    go : (o : Ordering) → pointwise eqb n m ≡ is_same (order n m) → (compare_is_eq o && pointwise eqb n m) ≡ is_same (by_byte o (order n m))
+    go Ordering.lt h = refl
+    go Ordering.eq h = h
+    go Ordering.gt h = refl
+
 -- names of two lengths are not the same
 pub same_lengths : (n m : Name) → (length n ≡ length m → ⊥) → same n m ≡ false
 unfolding same order is_same
@@ -452,6 +465,16 @@ module _ (s t : List ℕ) (a e b f i : ℕ) (k : e ≤ length s) (l : f ≤ leng
   unfolding shared
   compared_same h g = last Same (order_same s t (a + i) e (b + i) f h g) (rw (part_nil s (a + i) e h))
 
+  -- one part is over: their lengths decide
+  pub compared_sizes : {o : Order} → o ≡ nat_cmp (e - a) (f - b) → min (e - a) (f - b) ≤ i
+      → comparison (part s a e) (part t b f) ≡ record { order = o; shared = i }
+  compared_sizes {o} d n = go o (ranked (e - a) (f - b) o d)
+    where
+      go : (o : Order) → MatchOrdering o (e - a < f - b) (e - a ≡ f - b) (f - b < e - a) → comparison (part s a e) (part t b f) ≡ record { order = o; shared = i }
+      go Before m = let w = shared_within in compared_shorter (omega arith) (omega arith)
+      go Same m = let w = shared_within in compared_same (omega arith) (omega arith)
+      go After m = let w = shared_within in compared_longer (omega arith) (omega arith)
+
   module _ (h : a + i < e) (g : b + i < f) where
     -- the next bytes differ: no more is shared
     shared_differ : (get_or s (a + i) 0 ≡ get_or t (b + i) 0 → ⊥) → shared (part s (a + i) e) (part t (b + i) f) ≡ 0
@@ -481,6 +504,17 @@ module _ (s t : List ℕ) (a e b f i : ℕ) (k : e ≤ length s) (l : f ≤ leng
         (order_cons s t (a + i) e (b + i) f h k g l
         ∙ by_more (compare x y) (order (part s (a + i + 1) e) (part t (b + i + 1) f)) (lt-leb x y d))
         (shared_differ (λ z. omega arith))
+
+    -- the next bytes differ: their order is that of the parts
+    pub compared_bytes : {o : Order} → o ≡ nat_cmp (get_or s (a + i) 0) (get_or t (b + i) 0) → (get_or s (a + i) 0 ≡ get_or t (b + i) 0 → ⊥)
+        → comparison (part s a e) (part t b f) ≡ record { order = o; shared = i }
+    compared_bytes {o} d n = go o (ranked (get_or s (a + i) 0) (get_or t (b + i) 0) o d)
+      where
+        go : (o : Order) → MatchOrdering o (get_or s (a + i) 0 < get_or t (b + i) 0) (get_or s (a + i) 0 ≡ get_or t (b + i) 0) (get_or t (b + i) 0 < get_or s (a + i) 0)
+            → comparison (part s a e) (part t b f) ≡ record { order = o; shared = i }
+        go Before m = compared_less m
+        go Same m = absurd (n m)
+        go After m = compared_more m
 
     -- the next bytes are equal: one more is shared
     pub shared_on : get_or s (a + i) 0 ≡ get_or t (b + i) 0 → i + 1 ≤ shared (part s a e) (part t b f)
@@ -687,13 +721,13 @@ line_none s at h = rw (drop_of_length-le s {i = at} h)
 -- ---- cursors
 
 -- a cursor past its end has no field
-pub field_none : (s : List ℕ) (c : Cursor) → c.end < c.at → field_at s c ≡ field.Refused refusal.Form
+pub field_none : (s : List ℕ) (c : Cursor) → c.end < c.at → field_at s c ≡ Err refusal.Form
 unfolding field_at
 field_none s c h = rw (lt-leb c.at c.end h)
 
 -- a cursor that is not past its end has a field, up to m
 pub field_some : (s : List ℕ) (c : Cursor) (m : ℕ) → c.at ≤ c.end → m ≡ mark_at 0x2c s c.at c.end
-    → field_at s c ≡ field.Part c.at m (record { at = m + 1; end = c.end })
+    → field_at s c ≡ Ok (record { start = c.at; end = m; next = record { at = m + 1; end = c.end } })
 unfolding field_at
 field_some s c m h k = rw (k, le-leb c.at c.end h)
 
@@ -708,14 +742,14 @@ unfolding fields_left
 left_some s c h = rw (le-leb c.at c.end h)
 
 -- no field is answered
-module _ (s : List ℕ) (c : Cursor) (r : Refusal) (h : field_at s c ≡ field.Refused r) where
+module _ (s : List ℕ) (c : Cursor) (r : Refusal) (h : field_at s c ≡ Err r) where
   -- no name is answered
-  pub name_refused : name_at s c ≡ field.Refused r
+  pub name_refused : name_at s c ≡ Err r
   unfolding name_at as_name
   name_refused = rw h
 
   -- no number is answered
-  pub number_refused : (limit : ℕ) → number_at limit s c ≡ numbered.Refused r
+  pub number_refused : (limit : ℕ) → number_at limit s c ≡ Err r
   unfolding number_at as_number
   number_refused limit = rw h
 
@@ -727,7 +761,7 @@ module _ (s : List ℕ) (c : Cursor) (m : ℕ) (h : c.at ≤ c.end) (k : m ≡ m
   name_sized l t = rw (field_some s c m h k, t, part_length s c.at m l, and-true)
 
   -- one may not
-  pub name_bad : all is_name_byte (part s c.at m) ≡ false → field.Refused refusal.Name ≡ name_at s c
+  pub name_bad : all is_name_byte (part s c.at m) ≡ false → Err refusal.Name ≡ name_at s c
   unfolding name_at as_name
   name_bad t = rw (field_some s c m h k, name_byte (part s c.at m) t)
 
@@ -738,40 +772,40 @@ module _ (s : List ℕ) (c : Cursor) (m : ℕ) (h : c.at ≤ c.end) (k : m ≡ m
   number_read limit = rw (field_some s c m h k)
 
   -- its bytes make no value
-  pub number_none : (limit : ℕ) → valued 0 (part s c.at m) ≡ none → numbered.Refused refusal.Number ≡ number_at limit s c
+  pub number_none : (limit : ℕ) → valued 0 (part s c.at m) ≡ none → Err refusal.Number ≡ number_at limit s c
   unfolding at_most
   number_none limit d = rw (number_bad (part s c.at m) d) at (number_read limit)
 
 -- what a number field answers
 module _ (limit : ℕ) (next : Cursor) (o : Option ℕ) where
   -- no number
-  pub most_none : o ≡ none → numbered.Refused refusal.Number ≡ at_most limit next o
+  pub most_none : o ≡ none → Err refusal.Number ≡ at_most limit next o
   unfolding at_most
   most_none d = rw d
 
   -- a number of at most `limit`
-  pub most_good : (v : ℕ) → o ≡ some v → v ≤ limit → numbered.Number v next ≡ at_most limit next o
+  pub most_good : (v : ℕ) → o ≡ some v → v ≤ limit → Ok (v, next) ≡ at_most limit next o
   unfolding at_most
   most_good v d k = rw (d, le-leb v limit k)
 
   -- a larger number
-  pub most_over : (v : ℕ) → o ≡ some v → limit < v → numbered.Refused refusal.Number ≡ at_most limit next o
+  pub most_over : (v : ℕ) → o ≡ some v → limit < v → Err refusal.Number ≡ at_most limit next o
   unfolding at_most
   most_over v d k = rw (d, lt-leb v limit k)
 
 module _ (count : ℕ) (s : List ℕ) (c : Cursor) where
   -- where no number is answered, no term is
-  pub term_refused : (r : Refusal) → number_at 65535 s c ≡ numbered.Refused r → term_at count s c ≡ numbered.Refused r
+  pub term_refused : (r : Refusal) → number_at 65535 s c ≡ Err r → term_at count s c ≡ Err r
   unfolding term_at as_term
   term_refused r h = rw h
 
   -- a number below `count` is a term
-  pub term_good : (v : ℕ) (n : Cursor) → number_at 65535 s c ≡ numbered.Number v n → v < count → term_at count s c ≡ numbered.Number v n
+  pub term_good : (v : ℕ) (n : Cursor) → number_at 65535 s c ≡ Ok (v, n) → v < count → term_at count s c ≡ Ok (v, n)
   unfolding term_at as_term
   term_good v n h k = rw (h, lt-ltb v count k)
 
   -- a number from `count` on is no term
-  pub term_over : (v : ℕ) (n : Cursor) → number_at 65535 s c ≡ numbered.Number v n → count ≤ v → term_at count s c ≡ numbered.Refused refusal.Term
+  pub term_over : (v : ℕ) (n : Cursor) → number_at 65535 s c ≡ Ok (v, n) → count ≤ v → term_at count s c ≡ Err refusal.Term
   unfolding term_at as_term
   term_over v n h k = rw (h, le-ltb v count k)
 
@@ -797,28 +831,28 @@ module _ {A : Type 0} where
   next_judged judge (f ∷ fs) = refl
 
 -- a field taken for a name
-as_name_law : (s : List ℕ) (step : FieldStep) → field_result s (as_name s step) ≡ judged name_field (field_result s step)
+as_name_law : (s : List ℕ) (step : Outcome Part Refusal) → field_result s (as_name s step) ≡ judged name_field (field_result s step)
 unfolding field_result as_name judged with_rest name_field
-as_name_law s (field.Refused r) = refl
-as_name_law s (field.Part a e n) =
-    let t = is_name (part s a e) in
-    choice (field_result s) t (field.Part a e n) (field.Refused refusal.Name)
-    ∙ sym (choice (with_rest (fields_left s n)) t (ok (part s a e)) (refused refusal.Name))
+as_name_law s (Err r) = refl
+as_name_law s (Ok p) =
+    let t = is_name (part s p.start p.end) in
+    choice (field_result s) t (Ok p) (Err refusal.Name)
+    ∙ sym (choice (with_rest (fields_left s p.next)) t (ok (part s p.start p.end)) (refused refusal.Name))
 
 -- a field taken for a number
-as_number_law : (limit : ℕ) (s : List ℕ) (step : FieldStep)
+as_number_law : (limit : ℕ) (s : List ℕ) (step : Outcome Part Refusal)
     → number_result s (as_number limit s step) ≡ judged (number_field limit) (field_result s step)
 unfolding field_result number_result as_number at_most judged with_rest number_field need
-as_number_law limit s (field.Refused r) = refl
-as_number_law limit s (field.Part a e n) = go (number (part s a e))
+as_number_law limit s (Err r) = refl
+as_number_law limit s (Ok p) = go (number (part s p.start p.end))
   where
     go : (o : Option ℕ)
-        → number_result s (at_most limit n o)
-        ≡ with_rest (fields_left s n) (need refusal.Number o >>=ᴿ λ m. cond (leb m limit) (ok m) (refused refusal.Number))
+        → number_result s (at_most limit p.next o)
+        ≡ with_rest (fields_left s p.next) (need refusal.Number o >>=ᴿ λ m. cond (leb m limit) (ok m) (refused refusal.Number))
     go none = refl
     go (some m) =
-        choice (number_result s) (leb m limit) (numbered.Number m n) (numbered.Refused refusal.Number)
-        ∙ sym (choice (with_rest (fields_left s n)) (leb m limit) (ok m) (refused refusal.Number))
+        choice (number_result s) (leb m limit) (Ok (m, p.next)) (Err refusal.Number)
+        ∙ sym (choice (with_rest (fields_left s p.next)) (leb m limit) (ok m) (refused refusal.Number))
 
 -- a number, where it names one of `count` terms
 narrowed : ℕ → Result (ℕ × List Field) → Result (ℕ × List Field)
@@ -826,10 +860,10 @@ narrowed count (ok n) = cond (ltb n.0 count) (ok n) (refused refusal.Term)
 narrowed count (refused r) = refused r
 
 -- a number taken for a term
-as_term_law : (count : ℕ) (s : List ℕ) (step : NumberStep) → number_result s (as_term count step) ≡ narrowed count (number_result s step)
+as_term_law : (count : ℕ) (s : List ℕ) (step : Outcome (ℕ × Cursor) Refusal) → number_result s (as_term count step) ≡ narrowed count (number_result s step)
 unfolding number_result as_term narrowed
-as_term_law count s (numbered.Refused r) = refl
-as_term_law count s (numbered.Number m n) = choice (number_result s) (ltb m count) (numbered.Number m n) (numbered.Refused refusal.Term)
+as_term_law count s (Err r) = refl
+as_term_law count s (Ok (m, n)) = choice (number_result s) (ltb m count) (Ok (m, n)) (Err refusal.Term)
 
 -- a term field is a number field that is narrowed
 term_judged : (count : ℕ) (r : Result (Field × List Field)) → narrowed count (judged (number_field 65535) r) ≡ judged (term_field count) r
@@ -887,21 +921,23 @@ pub record Onward (s : List ℕ) (c n : Cursor) : Type 0 where
   pub stays : n.end ≡ c.end
   pub placed : Placed s n
 
--- a field that was read from a up to e: it starts at the cursor, lies in the file, and the next cursor stands past it
-pub record Stepped (s : List ℕ) (c : Cursor) (a e : ℕ) (n : Cursor) : Type 0 where
-  pub start : a ≡ c.at
-  pub ordered : a ≤ e
-  pub inside : e ≤ length s
-  pub past : n.at ≡ e + 1
-  pub onward : Onward s c n
+-- a field that was read: it starts at the cursor, lies in the file, and the next cursor stands past it
+pub record Stepped (s : List ℕ) (c : Cursor) (f : Part) : Type 0 where
+  pub start : f.start ≡ c.at
+  pub ordered : f.start ≤ f.end
+  pub inside : f.end ≤ length s
+  pub past : f.next.at ≡ f.end + 1
+  pub onward : Onward s c f.next
 
--- no refusal is a field
-field_apart : (r : Refusal) (a e : ℕ) (n : Cursor) → field.Refused r ≡ field.Part a e n → ⊥
-field_apart r a e n h = let z : ◌≡◌ {A = ℕ} 0 1 = cc in omega arith
+-- no refusal is an answer
+apart : {A : Type 0} (r : Refusal) (a : A) → ◌≡◌ {A = Outcome A Refusal} (Err r) (Ok a) → ⊥
+apart r a h = let z : ◌≡◌ {A = ℕ} 0 1 = cc in omega arith
 
--- no refusal is a number
-number_apart : (r : Refusal) (v : ℕ) (n : Cursor) → numbered.Refused r ≡ numbered.Number v n → ⊥
-number_apart r v n h = let z : ◌≡◌ {A = ℕ} 0 1 = cc in omega arith
+-- the parts of a number that is answered
+answered : (m v : ℕ) (a b : Cursor) → ◌≡◌ {A = Outcome (ℕ × Cursor) Refusal} (Ok (m, a)) (Ok (v, b)) → (m ≡ v) × (a ≡ b)
+answered m v a b h =
+    let pair : ◌≡◌ {A = ℕ × Cursor} (m, a) (v, b) = cc in
+    (ap (λ (q : ℕ × Cursor). q.0) pair, ap (λ (q : ℕ × Cursor). q.1) pair)
 
 -- a choice that is not the second is the first
 chosen : {A : Type 0} (t : Bool) (x y z : A) → (y ≡ z → ⊥) → cond t x y ≡ z → (t ≡ true) × (x ≡ z)
@@ -909,76 +945,75 @@ chosen true x y z other h = (refl, h)
 chosen false x y z other h = absurd (other h)
 
 -- a name that is answered is a field that was answered, and is a name
-as_name_part : (s : List ℕ) (step : FieldStep) (a e : ℕ) (n : Cursor) → as_name s step ≡ field.Part a e n
-    → (step ≡ field.Part a e n) × (is_name (part s a e) ≡ true)
+as_name_part : (s : List ℕ) (step : Outcome Part Refusal) (p : Part) → as_name s step ≡ Ok p
+    → (step ≡ Ok p) × (is_name (part s p.start p.end) ≡ true)
 unfolding as_name
-as_name_part s (field.Refused r) a e n h = absurd (field_apart r a e n h)
-as_name_part s (field.Part a' e' n') a e n h =
-    let (d, k) = chosen (is_name (part s a' e')) (field.Part a' e' n') (field.Refused refusal.Name) (field.Part a e n) (field_apart refusal.Name a e n) h in
-    let x : a' ≡ a = cc in
-    let y : e' ≡ e = cc in
-    (k, rw (← x, ← y) d)
+as_name_part s (Err r) p h = absurd (apart r p h)
+as_name_part s (Ok q) p h =
+    let (d, k) = chosen (is_name (part s q.start q.end)) (Ok q) (Err refusal.Name) (Ok p) (apart refusal.Name p) h in
+    let x : q ≡ p = cc in
+    (k, rw (← x) d)
 
 -- a number that is answered is that of a field that was answered, and at most `limit`
-as_number_part : (limit : ℕ) (s : List ℕ) (step : FieldStep) (v : ℕ) (n : Cursor) → as_number limit s step ≡ numbered.Number v n
-    → (a : ℕ) × (e : ℕ) × (step ≡ field.Part a e n) × (v ≤ limit)
+as_number_part : (limit : ℕ) (s : List ℕ) (step : Outcome Part Refusal) (v : ℕ) (n : Cursor) → as_number limit s step ≡ Ok (v, n)
+    → (p : Part) × (step ≡ Ok p) × (p.next ≡ n) × (v ≤ limit)
 unfolding as_number at_most
-as_number_part limit s (field.Refused r) v n h = absurd (number_apart r v n h)
-as_number_part limit s (field.Part a e n') v n h =
-    let (k, l) = go (number (part s a e)) h in
-    (a, e, ap (field.Part a e) k, l)
+as_number_part limit s (Err r) v n h = absurd (apart r (v, n) h)
+as_number_part limit s (Ok p) v n h =
+    let (k, l) = go (number (part s p.start p.end)) h in
+    (p, refl, k, l)
   where
-    go : (o : Option ℕ) → at_most limit n' o ≡ numbered.Number v n → (n' ≡ n) × (v ≤ limit)
-    go none h = absurd (number_apart refusal.Number v n h)
+    go : (o : Option ℕ) → at_most limit p.next o ≡ Ok (v, n) → (p.next ≡ n) × (v ≤ limit)
+    go none h = absurd (apart refusal.Number (v, n) h)
     go (some m) h =
-        let (d, k) = chosen (leb m limit) (numbered.Number m n') (numbered.Refused refusal.Number) (numbered.Number v n) (number_apart refusal.Number v n) h in
-        let x : m ≡ v = cc in
-        (cc, omega (arith, leb-true m limit d))
+        let (d, k) = chosen (leb m limit) (Ok (m, p.next)) (Err refusal.Number) (Ok (v, n)) (apart refusal.Number (v, n)) h in
+        let (x, y) = answered m v p.next n k in
+        (y, omega (arith, leb-true m limit d))
 
 -- a term that is answered is a number that was answered, and below `count`
-as_term_part : (count : ℕ) (step : NumberStep) (v : ℕ) (n : Cursor) → as_term count step ≡ numbered.Number v n
-    → (step ≡ numbered.Number v n) × (v < count)
+as_term_part : (count : ℕ) (step : Outcome (ℕ × Cursor) Refusal) (v : ℕ) (n : Cursor) → as_term count step ≡ Ok (v, n)
+    → (step ≡ Ok (v, n)) × (v < count)
 unfolding as_term
-as_term_part count (numbered.Refused r) v n h = absurd (number_apart r v n h)
-as_term_part count (numbered.Number m n') v n h =
-    let (d, k) = chosen (ltb m count) (numbered.Number m n') (numbered.Refused refusal.Term) (numbered.Number v n) (number_apart refusal.Term v n) h in
-    let x : m ≡ v = cc in
+as_term_part count (Err r) v n h = absurd (apart r (v, n) h)
+as_term_part count (Ok (m, n')) v n h =
+    let (d, k) = chosen (ltb m count) (Ok (m, n')) (Err refusal.Term) (Ok (v, n)) (apart refusal.Term (v, n)) h in
+    let (x, y) = answered m v n' n k in
     (k, omega (arith, ltb-true m count d))
 
 module _ (s : List ℕ) (c : Cursor) (p : Placed s c) where
   -- a field that is answered was read
-  pub field_next : (a e : ℕ) (n : Cursor) → field_at s c ≡ field.Part a e n → Stepped s c a e n
-  field_next a e n h = go (leb c.at c.end) refl
+  pub field_next : (f : Part) → field_at s c ≡ Ok f → Stepped s c f
+  field_next f h = go (leb c.at c.end) refl
     where
-      go : (t : Bool) → leb c.at c.end ≡ t → Stepped s c a e n
+      go : (t : Bool) → leb c.at c.end ≡ t → Stepped s c f
       go true d =
           let k = leb-true c.at c.end d in
           let m = mark_at 0x2c s c.at c.end in
-          let w = field_some s c m k refl in
-          let x : c.at ≡ a = cc in
-          let y : m ≡ e = cc in
-          let z : record { at = m + 1; end = c.end } ≡ n = cc in
-          let u = ap (λ (q : Cursor). q.at) z in
-          let v = ap (λ (q : Cursor). q.end) z in
-          omega (arith, mark_from m 0x2c s c.at c.end refl, mark_to m 0x2c s c.at c.end refl k p.inside)
-      go false d = absurd (field_apart refusal.Form a e n (sym (field_none s c (leb-false c.at c.end d)) ∙ h))
+          let made : Part = record { start = c.at; end = m; next = record { at = m + 1; end = c.end } } in
+          let w : ◌≡◌ {A = Outcome Part Refusal} (Ok f) (Ok made) = sym h ∙ field_some s c m k refl in
+          let x : f ≡ made = cc in
+          rw x
+          (let low = mark_from m 0x2c s c.at c.end refl in
+          let high = mark_to m 0x2c s c.at c.end refl k p.inside in
+          omega arith)
+      go false d = absurd (apart refusal.Form f (sym (field_none s c (leb-false c.at c.end d)) ∙ h))
 
   -- a name that is answered was read, and is a name
-  pub name_next : (a e : ℕ) (n : Cursor) → name_at s c ≡ field.Part a e n → Stepped s c a e n × (is_name (part s a e) ≡ true)
+  pub name_next : (f : Part) → name_at s c ≡ Ok f → Stepped s c f × (is_name (part s f.start f.end) ≡ true)
   unfolding name_at
-  name_next a e n h =
-      let (k, d) = as_name_part s (field_at s c) a e n h in
-      (field_next a e n k, d)
+  name_next f h =
+      let (k, d) = as_name_part s (field_at s c) f h in
+      (field_next f k, d)
 
   -- a number that is answered is at most `limit`, and the next cursor stands further on
-  pub number_next : (limit v : ℕ) (n : Cursor) → number_at limit s c ≡ numbered.Number v n → Onward s c n × (v ≤ limit)
+  pub number_next : (limit v : ℕ) (n : Cursor) → number_at limit s c ≡ Ok (v, n) → Onward s c n × (v ≤ limit)
   unfolding number_at
   number_next limit v n h =
-      let (a, e, k, l) = as_number_part limit s (field_at s c) v n h in
-      ((field_next a e n k).onward, l)
+      let (f, k, e, l) = as_number_part limit s (field_at s c) v n h in
+      (rw e at (field_next f k).onward, l)
 
   -- a term that is answered is below `count`, and the next cursor stands further on
-  pub term_next : (count v : ℕ) (n : Cursor) → term_at count s c ≡ numbered.Number v n → Onward s c n × (v < count)
+  pub term_next : (count v : ℕ) (n : Cursor) → term_at count s c ≡ Ok (v, n) → Onward s c n × (v < count)
   unfolding term_at
   term_next count v n h =
       let (k, l) = as_term_part count (number_at 65535 s c) v n h in

@@ -1,13 +1,14 @@
 #![tactic(auto)]
 
 ghost use Rattle.std.specs.Prelude.{◌≤◌, ◌+◌, min, ◌≡◌, length};
-ghost use Rattle.std.proofs.Math.Option.{some};
+ghost use Rattle.std.specs.Prelude.{Some as some};
 ghost use Rattle.model.specs.Lists.{part};
 ghost use Rattle.model.specs.Names.{same, starts_with, ends_with};
 ghost use Rattle.model.specs.Lines.{fields, is_name_byte, number};
 ghost use Rattle.text.specs.Parts.{mark_at, shared, comparison, Placed, field_at, sized_name, name_at, valued, at_most, number_at, term_at};
 
-use model::{Order, Refusal};
+use model::Refusal;
+use std::cmp::Ordering;
 
 // The longest name.
 const MOST_LENGTH: usize = 255;
@@ -25,36 +26,16 @@ pub struct Cursor {
 // How two parts of a file stand to each other: their byte order, and how many bytes they share at their starts.
 #[derive(Clone, Copy)]
 pub struct Comparison {
-    pub order: Order,
+    pub order: Ordering,
     pub shared: usize,
 }
 
-// The next field of a line, from `start` up to `end`, and the cursor after it; or the refusal.
+// A field of a line, from `start` up to `end`, and the cursor after it.
 #[derive(Clone, Copy)]
-pub enum FieldStep {
-    Part {
-        start: usize,
-        end: usize,
-        next: Cursor,
-    },
-    Refused(Refusal),
-}
-
-// The number that the next field of a line is, and the cursor after it; or the refusal.
-#[derive(Clone, Copy)]
-pub enum NumberStep {
-    Number(u32, Cursor),
-    Refused(Refusal),
-}
-
-// The lesser of two numbers.
-pub fn lesser(a: usize, b: usize) -> usize
-    ensures { result ≡ min a b }
-{
-    if a < b {
-        return a;
-    }
-    b
+pub struct Part {
+    pub start: usize,
+    pub end: usize,
+    pub next: Cursor,
 }
 
 // The first position from `at` up to `end` where `mark` stands, or `end`, byte by byte.
@@ -62,12 +43,11 @@ fn find_near(s: &[u8], mark: u8, at: usize, end: usize) -> usize
     requires { (at ≤ end) × (end ≤ length s.now) }
     ensures { result ≡ mark_at mark s.now at end }
 {
-    let mut j = at;
-    while j < end {
+    // Not by `position`: it takes 216 instructions over a short part where this takes 184, and the proof did not close.
+    for j in at..end {
         if s[j] == mark {
             return j;
         }
-        j += 1;
     }
     end
 }
@@ -78,6 +58,7 @@ pub fn find(s: &[u8], mark: u8, at: usize, end: usize) -> usize
     ensures { result ≡ mark_at mark s.now at end }
 {
     let mut i = at;
+    // Four places a turn, so no range counts the turns: most bytes of a file are passed here, and the test of the end costs.
     while 4 <= end - i {
         if s[i] == mark {
             return i;
@@ -102,12 +83,11 @@ pub fn count_fields(s: &[u8], at: usize, end: usize) -> usize
     ensures { result ≡ length (fields (part s.now at end)) }
 {
     let mut n: usize = 1;
-    let mut i = at;
-    while i < end {
+    // Not by `filter` and `count`: they take 290 instructions over a short line where this takes 200.
+    for i in at..end {
         if s[i] == b',' {
             n += 1;
         }
-        i += 1;
     }
     n
 }
@@ -130,17 +110,7 @@ pub fn same_text(s: &[u8], a: usize, e: usize, word: &[u8]) -> bool
     requires { (a ≤ e) × (e ≤ length s.now) }
     ensures { result ≡ same (part s.now a e) word.now }
 {
-    if word.len() != e - a {
-        return false;
-    }
-    let mut i = 0;
-    while i < word.len() {
-        if s[a + i] != word[i] {
-            return false;
-        }
-        i += 1;
-    }
-    true
+    &s[a..e] == word
 }
 
 // Whether the part from `a` up to `e` begins with the prefix.
@@ -174,169 +144,150 @@ pub fn compare_from(s: &[u8], a: usize, e: usize, b: usize, f: usize, from: usiz
 {
     let first_size = e - a;
     let second_size = f - b;
-    let shorter = lesser(first_size, second_size);
-    let mut i = from;
-    while i < shorter {
+    let shorter = first_size.min(second_size);
+    for i in from..shorter {
         let x = s[a + i];
         let y = s[b + i];
         if x != y {
-            if x < y {
-                return Comparison {
-                    order: Order::Before,
-                    shared: i,
-                };
-            }
             return Comparison {
-                order: Order::After,
+                order: x.cmp(&y),
                 shared: i,
             };
         }
-        i += 1;
-    }
-    if first_size < second_size {
-        return Comparison {
-            order: Order::Before,
-            shared: i,
-        };
-    }
-    if second_size < first_size {
-        return Comparison {
-            order: Order::After,
-            shared: i,
-        };
     }
     Comparison {
-        order: Order::Same,
-        shared: i,
+        order: first_size.cmp(&second_size),
+        shared: shorter,
     }
 }
 
 // The field from `at` up to `stop` in a line that ends at `end`: its bytes may stand in a name, and its length decides.
-fn sized_name(at: usize, stop: usize, end: usize) -> FieldStep
+fn sized_name(at: usize, stop: usize, end: usize) -> Result<Part, Refusal>
     requires { (at ≤ stop) × (stop ≤ 65535) }
     ensures { result ≡ sized_name at stop end }
 {
     match stop - at {
-        1..=MOST_LENGTH => FieldStep::Part {
+        1..=MOST_LENGTH => Ok(Part {
             start: at,
             end: stop,
             next: Cursor { at: stop + 1, end },
-        },
-        _ => FieldStep::Refused(Refusal::Name),
+        }),
+        _ => Err(Refusal::Name),
     }
 }
 
-// The number from `at` up to `stop` in a line that ends at `end`, digits of the value `n`: one digit at least, no zero in front.
-fn valued_number(s: &[u8], at: usize, stop: usize, end: usize, n: u32, limit: u32) -> NumberStep
+// The number from `at` up to `stop` in a line that ends at `end`, digits of the value `n`: one digit at least, no zero in
+// front.
+fn valued_number(
+    s: &[u8],
+    at: usize,
+    stop: usize,
+    end: usize,
+    n: u32,
+    limit: u32,
+) -> Result<(u32, Cursor), Refusal>
     requires { (at ≤ stop) × (stop ≤ length s.now) × (length s.now ≤ 65535)
         × (valued 0 (part s.now at stop) ≡ some n) }
     ensures { result ≡ at_most limit (record { at = stop + 1; end = end }) (number (part s.now at stop)) }
 {
     if stop == at {
-        return NumberStep::Refused(Refusal::Number);
+        return Err(Refusal::Number);
     }
     let several = 1 < stop - at;
     if several {
         if s[at] == b'0' {
-            return NumberStep::Refused(Refusal::Number);
+            return Err(Refusal::Number);
         }
     }
     if n <= limit {
-        return NumberStep::Number(n, Cursor { at: stop + 1, end });
+        return Ok((n, Cursor { at: stop + 1, end }));
     }
-    NumberStep::Refused(Refusal::Number)
+    Err(Refusal::Number)
 }
 
 impl Cursor {
     // The next field.
-    pub fn field(self, s: &[u8]) -> FieldStep
+    pub fn field(self, s: &[u8]) -> Result<Part, Refusal>
         requires { Placed s.now self }
         ensures { result ≡ field_at s.now self }
     {
         let at = self.at;
         let end = self.end;
         if end < at {
-            return FieldStep::Refused(Refusal::Form);
+            return Err(Refusal::Form);
         }
         let stop = find(s, b',', at, end);
-        FieldStep::Part {
+        Ok(Part {
             start: at,
             end: stop,
             next: Cursor { at: stop + 1, end },
-        }
+        })
     }
 
     // The next field, a name. Its bytes are judged on the way to its end.
-    pub fn name(self, s: &[u8]) -> FieldStep
+    pub fn name(self, s: &[u8]) -> Result<Part, Refusal>
         requires { Placed s.now self }
         ensures { result ≡ name_at s.now self }
     {
         let at = self.at;
         let end = self.end;
         if self.end < self.at {
-            return FieldStep::Refused(Refusal::Form);
+            return Err(Refusal::Form);
         }
-        let mut i = at;
-        while i < end {
+        for i in at..end {
             let b = s[i];
             if !is_name_byte(b) {
                 if b != b',' {
-                    return FieldStep::Refused(Refusal::Name);
+                    return Err(Refusal::Name);
                 }
                 return sized_name(at, i, end);
             }
-            i += 1;
         }
         sized_name(at, end, end)
     }
 
     // The next field, a number of at most `limit`. Its digits are added up on the way to its end, until the
     // value is too large.
-    pub fn number(self, s: &[u8], limit: u32) -> NumberStep
+    pub fn number(self, s: &[u8], limit: u32) -> Result<(u32, Cursor), Refusal>
         requires { Placed s.now self }
         ensures { result ≡ number_at limit s.now self }
     {
         let at = self.at;
         let end = self.end;
         if self.end < self.at {
-            return NumberStep::Refused(Refusal::Form);
+            return Err(Refusal::Form);
         }
         let mut n: u32 = 0;
-        let mut i = at;
-        while i < end {
+        for i in at..end {
             let b = s[i];
             if b < b'0' {
                 if b != b',' {
-                    return NumberStep::Refused(Refusal::Number);
+                    return Err(Refusal::Number);
                 }
                 return valued_number(s, at, i, end, n, limit);
             }
             if b'9' < b {
-                return NumberStep::Refused(Refusal::Number);
+                return Err(Refusal::Number);
             }
             n = n * 10 + (b - b'0') as u32;
             if MOST_NUMBER < n {
-                return NumberStep::Refused(Refusal::Number);
+                return Err(Refusal::Number);
             }
-            i += 1;
         }
         valued_number(s, at, end, end, n, limit)
     }
 
     // The next field, the number of one of `count` terms.
-    pub fn term(self, s: &[u8], count: u32) -> NumberStep
+    #[tactic(auto, unfolding(crate::specs::Parts::term_at, crate::specs::Parts::as_term))]
+    pub fn term(self, s: &[u8], count: u32) -> Result<(u32, Cursor), Refusal>
         requires { Placed s.now self }
         ensures { result ≡ term_at count s.now self }
     {
-        match self.number(s, MOST_NUMBER) {
-            NumberStep::Number(n, next) => {
-                if n < count {
-                    NumberStep::Number(n, next)
-                } else {
-                    NumberStep::Refused(Refusal::Term)
-                }
-            }
-            NumberStep::Refused(r) => NumberStep::Refused(r),
+        let (n, next) = self.number(s, MOST_NUMBER)?;
+        if n < count {
+            Ok((n, next))
+        } else {
+            Err(Refusal::Term)
         }
     }
 }

@@ -12,13 +12,11 @@ use Rattle.model.proofs.PartLaws.{part_nil, part_same, part_split}
 use Rattle.terms.specs.Rows.{terms_of_words, terms_of, Rows}
 use Rattle.words.specs.Slices.{SameBut}
 use Rattle.gather.specs.Sets.{Fresh, Named, Gathers, all_names, no_room as no_names, Gathered, ended}
-use Rattle.gather.specs.declared.Walked.{Walked}
-use Rattle.gather.specs.declared.Walked.TheVariants as gathered
+use Rattle.std.specs.Prelude.{Option, None, Some}
 use Rattle.gather.specs.Visits.{Visit, WalksAs}
 use Rattle.words.proofs.Slices.{same_self, same_then, same_wider, same_set}
 use Rattle.triggers.specs.declared.Filed.{Filed}
-use Rattle.triggers.specs.declared.Filed.TheVariants as filed
-use Rattle.triggers.specs.Entries.{disjuncts_of, disjuncts_of_words, filed_end, Files, all_sets, no_room, EntriesFilled, Closes, last, empty, over, Opened}
+use Rattle.triggers.specs.Entries.{filed_sets, disjuncts_of, disjuncts_of_words, filed_end, Files, all_sets, no_room, EntriesFilled, Closes, last, empty, over, Opened}
 use Rattle.triggers.specs.Filings.{FilingState, filing, file_set, file_list, FilesAs}
 use Rattle.triggers.proofs.Disjuncts.{sets_append, block_sets, block_entries, empty_sets, empty_entries, no_entries, entries_then, entries_append, entries_one}
 use Rattle.triggers.proofs.Marked.{named_marked, terms_marked}
@@ -30,7 +28,7 @@ abbrev pub Sets : Type 0
 Sets = List Name → (ℕ → Name) → List (List Name)
 
 -- what filing sets comes to, whatever the names are: their entries, the slices, and every word of these
-pub record Comes (names rows lists names' rows' lists' : List ℕ) (named mark at : ℕ) (sets : Sets) (f : FilingState) (count : ℕ) (r : Filed) : Type 0 where
+pub record Comes (names rows lists names' rows' lists' : List ℕ) (named mark at : ℕ) (sets : Sets) (f : FilingState) (count : ℕ) (r : Option Filed) : Type 0 where
   pub files : (exclude : List Name) (name : ℕ → Name) → Named exclude name names named → Files name named (sets exclude name) at lists' r
   pub filled : EntriesFilled names rows lists names' rows' lists' mark at r
   pub filed_as : FilesAs f count names' rows' lists' mark at r
@@ -46,20 +44,24 @@ abbrev pub list_set : List ℕ → List ℕ → ℕ → ℕ → ℕ → ℕ → 
 list_set refs rows used many a e exclude name = group_names exclude (terms_of name refs rows used many) (terms_of_words (part refs a e))
 
 -- where the entries of an answer end
-answer_end : {n m e k : ℕ} → filed.Sets n e ≡ filed.Sets m k → e ≡ k
-answer_end p = cc
+answer_end : {n m e k : ℕ} → filed_sets n e ≡ filed_sets m k → e ≡ k
+answer_end {n} {m} {e} {k} p =
+    let same : ◌≡◌ {A = Filed} (record { sets = n; end = e }) (record { sets = m; end = k }) = cc in
+    ap (λ f. f.end) same
 
 -- how many disjuncts an answer has
-answer_count : {n m e k : ℕ} → filed.Sets n e ≡ filed.Sets m k → n ≡ m
-answer_count p = cc
+answer_count : {n m e k : ℕ} → filed_sets n e ≡ filed_sets m k → n ≡ m
+answer_count {n} {m} {e} {k} p =
+    let same : ◌≡◌ {A = Filed} (record { sets = n; end = e }) (record { sets = m; end = k }) = cc in
+    ap (λ f. f.sets) same
 
 -- a full slice is no answer
-full_none : {n e : ℕ} → filed.Full ≡ filed.Sets n e → ⊥
+full_none : {n e : ℕ} → None ≡ filed_sets n e → ⊥
 full_none p = let z : ◌≡◌ {A = ℕ} 0 1 = cc in omega arith
 
 -- a set that was gathered and ended is filed as one disjunct
-files_one : {name : ℕ → Name} {named at end : ℕ} {s : List Name} {lists lists' : List ℕ} {r : Filed} → named ≤ 2048 → 8192 ≤ length lists
-    → Gathers name named s at 8192 lists (gathered.Names end) → Closes lists lists' at end r → Files name named (s ∷ []) at lists' r
+files_one : {name : ℕ → Name} {named at end : ℕ} {s : List Name} {lists lists' : List ℕ} {r : Option Filed} → named ≤ 2048 → 8192 ≤ length lists
+    → Gathers name named s at 8192 lists (Some end) → Closes lists lists' at end r → Files name named (s ∷ []) at lists' r
 files_one {name} {named} {at} {end} {s} {lists} few long (all_names is count fits small) (last some q) =
     rw q (all_sets (block_sets lists at end named few (omega arith) small some name ∙ ap (◌∷ []) is) refl (omega (arith, entries_one s)) fits
     (block_entries lists at end named few (omega arith) small some))
@@ -69,17 +71,17 @@ files_one {name} {named} {at} {end} {s} {lists} few long (all_names is count fit
 files_one {at} {s} few long (all_names is count fits small) (over e l q) = no_room (omega (arith, entries_one s))
 
 -- a set without room has none as a disjunct
-files_over : {name : ℕ → Name} {named at : ℕ} {s : List Name} {lists : List ℕ} → Gathers name named s at 8192 lists gathered.Full
-    → Files name named (s ∷ []) at lists filed.Full
+files_over : {name : ℕ → Name} {named at : ℕ} {s : List Name} {lists : List ℕ} → Gathers name named s at 8192 lists None
+    → Files name named (s ∷ []) at lists None
 files_over {s} (no_names p f) = no_room (omega (arith, entries_one s))
 
 module _ {names rows lists names₁ rows₁ lists₁ : List ℕ} {named mark at : ℕ} (s : List Name → (ℕ → Name) → List Name) (less : named ≤ 2048)
     (h : Opened names rows lists mark at) where
   -- a set without room comes to no disjunct
   comes_over : {f : FilingState} → ((exclude : List Name) (name : ℕ → Name) → Named exclude name names named → Gathers name named
-      (s exclude name) at 8192 lists₁ gathered.Full)
-      → Gathered names rows lists names₁ rows₁ lists₁ mark at 8192 gathered.Full → FilesAs f 1 names₁ rows₁ lists₁ mark at filed.Full
-      → Comes names rows lists names₁ rows₁ lists₁ named mark at (λ exclude name. s exclude name ∷ []) f 1 filed.Full
+      (s exclude name) at 8192 lists₁ None)
+      → Gathered names rows lists names₁ rows₁ lists₁ mark at 8192 None → FilesAs f 1 names₁ rows₁ lists₁ mark at None
+      → Comes names rows lists names₁ rows₁ lists₁ named mark at (λ exclude name. s exclude name ∷ []) f 1 None
   unfolding ended filed_end
   comes_over g p x = record {
     files = λ exclude name d. files_over (g exclude name d);
@@ -96,7 +98,7 @@ module _ {names rows lists names₁ rows₁ lists₁ : List ℕ} {named mark at 
   }
 
   module _ {end : ℕ} (g : (exclude : List Name) (name : ℕ → Name) → Named exclude name names named → Gathers name named (s exclude name) at 8192 lists₁
-      (gathered.Names end)) (p : Gathered names rows lists names₁ rows₁ lists₁ mark at 8192 (gathered.Names end)) where
+      (Some end)) (p : Gathered names rows lists names₁ rows₁ lists₁ mark at 8192 (Some end)) where
     -- where a set ends
     set_ends : (at ≤ end) × (end ≤ 8192)
     unfolding ended
@@ -112,7 +114,7 @@ module _ {names rows lists names₁ rows₁ lists₁ : List ℕ} {named mark at 
     set_long = rw set_same.same_length h.high
 
     -- a set that was gathered and ended comes to one disjunct
-    comes_one : {f : FilingState} {r : Filed} {lists₂ : List ℕ} → Closes lists₁ lists₂ at end r → FilesAs f 1 names₁ rows₁ lists₂ mark at r
+    comes_one : {f : FilingState} {r : Option Filed} {lists₂ : List ℕ} → Closes lists₁ lists₂ at end r → FilesAs f 1 names₁ rows₁ lists₂ mark at r
         → Comes names rows lists names₁ rows₁ lists₂ named mark at (λ exclude name. s exclude name ∷ []) f 1 r
     unfolding filed_end
     comes_one (last some q) x = record {
@@ -157,45 +159,45 @@ module _ {names rows lists names₁ rows₁ lists₁ : List ℕ} {named mark at 
     }
 
 -- what ending a disjunct asks
-pub one_asks : {names rows lists names₁ rows₁ lists₁ : List ℕ} {mark at end : ℕ} {w : Walked} → Opened names rows lists mark at
-    → Gathered names rows lists names₁ rows₁ lists₁ mark at 8192 w → w ≡ gathered.Names end
+pub one_asks : {names rows lists names₁ rows₁ lists₁ : List ℕ} {mark at end : ℕ} {w : Option ℕ} → Opened names rows lists mark at
+    → Gathered names rows lists names₁ rows₁ lists₁ mark at 8192 w → w ≡ Some end
     → (at ≤ end) × (end ≤ 8192) × (8192 ≤ length lists₁) × (at < end → get_or lists₁ (end - 1) 0 < 2048)
 unfolding ended
 one_asks {names} {rows} {lists} {names₁} {rows₁} {lists₁} {mark} {at} {end} h p e =
-    let q : Gathered names rows lists names₁ rows₁ lists₁ mark at 8192 (gathered.Names end) = rw e at p in
+    let q : Gathered names rows lists names₁ rows₁ lists₁ mark at 8192 (Some end) = rw e at p in
     (q.grows, q.fits, rw q.lists_same.same_length h.high, λ l. q.small (end - 1) (omega arith) (omega arith))
 
-module _ {names rows lists names₁ rows₁ lists₁ : List ℕ} {named mark at : ℕ} {v : Visit} {w : Walked} (s : List Name → (ℕ → Name) → List Name)
+module _ {names rows lists names₁ rows₁ lists₁ : List ℕ} {named mark at : ℕ} {v : Visit} {w : Option ℕ} (s : List Name → (ℕ → Name) → List Name)
     (less : named ≤ 2048) (h : Opened names rows lists mark at)
     (g : (exclude : List Name) (name : ℕ → Name) → Named exclude name names named → Gathers name named (s exclude name) at 8192 lists₁ w)
     (p : Gathered names rows lists names₁ rows₁ lists₁ mark at 8192 w) (x : WalksAs v names rows lists names₁ rows₁ lists₁ mark at w) where
   -- an answer without room
-  pub one_over : w ≡ gathered.Full → Comes names rows lists names₁ rows₁ lists₁ named mark at (λ exclude name. s exclude name ∷ [])
-      (file_set (filing names rows lists mark at) v) 1 filed.Full
+  pub one_over : w ≡ None → Comes names rows lists names₁ rows₁ lists₁ named mark at (λ exclude name. s exclude name ∷ [])
+      (file_set (filing names rows lists mark at) v) 1 None
   one_over e = comes_over s less h (λ exclude name d. rw e at (g exclude name d)) (rw e at p) (words_over h x e)
 
   -- the disjunct that was ended
-  pub one_closed : {end : ℕ} {r : Filed} {lists₂ : List ℕ} → w ≡ gathered.Names end → Closes lists₁ lists₂ at end r
+  pub one_closed : {end : ℕ} {r : Option Filed} {lists₂ : List ℕ} → w ≡ Some end → Closes lists₁ lists₂ at end r
       → Comes names rows lists names₁ rows₁ lists₂ named mark at (λ exclude name. s exclude name ∷ []) (file_set (filing names rows lists mark at) v) 1 r
   one_closed e q = comes_one s less h (λ exclude name d. rw e at (g exclude name d)) (rw e at p) q (words_closed h x e (one_asks h p e).1 q)
 
 -- the last entry is marked
-pub close_last : {lists : List ℕ} {at end w : ℕ} → at < end → w ≡ get_or lists (end - 1) 0 → Closes lists (set lists (end - 1) (w + 4096)) at end (filed.Sets 1 end)
+pub close_last : {lists : List ℕ} {at end w : ℕ} → at < end → w ≡ get_or lists (end - 1) 0 → Closes lists (set lists (end - 1) (w + 4096)) at end (filed_sets 1 end)
 close_last h e = rw e (last h refl)
 
 -- an empty disjunct takes an entry
-pub close_empty : {lists : List ℕ} {at end : ℕ} → at ≤ end → end ≤ at → at < 8192 → Closes lists (set lists at 6144) at end (filed.Sets 1 (at + 1))
+pub close_empty : {lists : List ℕ} {at end : ℕ} → at ≤ end → end ≤ at → at < 8192 → Closes lists (set lists at 6144) at end (filed_sets 1 (at + 1))
 close_empty h k l = empty (omega arith) l refl
 
 -- or has no room
-pub close_over : {lists : List ℕ} {at end : ℕ} → at ≤ end → end ≤ at → 8192 ≤ at → Closes lists lists at end filed.Full
+pub close_over : {lists : List ℕ} {at end : ℕ} → at ≤ end → end ≤ at → 8192 ≤ at → Closes lists lists at end None
 close_over h k l = over (omega arith) l refl
 
 -- ---- one after another
 
 -- disjuncts after disjuncts
-files_then : {name : ℕ → Name} {named at n m k : ℕ} {s t : List (List Name)} {lists lists' : List ℕ} {r : Filed} → 8192 ≤ length lists
-    → Files name named s at lists (filed.Sets n m) → SameBut m k lists lists' → Files name named t m lists' r → Files name named (s ++ t) at lists' (after n r)
+files_then : {name : ℕ → Name} {named at n m k : ℕ} {s t : List (List Name)} {lists lists' : List ℕ} {r : Option Filed} → 8192 ≤ length lists
+    → Files name named s at lists (filed_sets n m) → SameBut m k lists lists' → Files name named t m lists' r → Files name named (s ++ t) at lists' (after n r)
 unfolding after
 files_then {name} {at = at} {m = m} {s} {t} {lists} {lists'} long (all_sets a b c d f) same (all_sets {e = e} a' b' c' d' f') =
     let more = entries_append s t in
@@ -209,36 +211,36 @@ files_then {name} {at = at} {m = m} {s} {t} {lists} {lists'} long (all_sets a b 
 files_then {s = s} {t = t} long (all_sets a b c d f) same (no_room p) = no_room (omega (arith, entries_append s t))
 
 -- where the entries of a later answer end
-after_end : (n : ℕ) (r : Filed) → filed_end (after n r) ≡ filed_end r
+after_end : (n : ℕ) (r : Option Filed) → filed_end (after n r) ≡ filed_end r
 unfolding after filed_end
-after_end n (filed.Sets m e) = refl
-after_end n filed.Full = refl
+after_end n (Some f) = refl
+after_end n None = refl
 
 -- the marks after it are below the next
-after_fresh : {names rows : List ℕ} (mark at n m : ℕ) (r : Filed) → at ≤ m → ((k e : ℕ) → r ≡ filed.Sets k e → k + m ≤ e)
-    → ((k e : ℕ) → r ≡ filed.Sets k e → Fresh names rows (mark + (m - at) + (e - m))) → (k e : ℕ) → after n r ≡ filed.Sets k e
+after_fresh : {names rows : List ℕ} (mark at n m : ℕ) (r : Option Filed) → at ≤ m → ((k e : ℕ) → r ≡ filed_sets k e → k + m ≤ e)
+    → ((k e : ℕ) → r ≡ filed_sets k e → Fresh names rows (mark + (m - at) + (e - m))) → (k e : ℕ) → after n r ≡ filed_sets k e
     → Fresh names rows (mark + (e - at))
 unfolding after
-after_fresh mark at n m (filed.Sets p q) lo few f k e z =
+after_fresh mark at n m (Some g) lo few f k e z =
     let w = answer_end z in
-    let b = few p q refl in
-    fresh_later (mark + (m - at) + (q - m)) (mark + (e - at)) (omega arith) (f p q refl)
-after_fresh mark at n m filed.Full lo few f k e z = absurd (full_none z)
+    let b = few g.sets g.end refl in
+    fresh_later (mark + (m - at) + (g.end - m)) (mark + (e - at)) (omega arith) (f g.sets g.end refl)
+after_fresh mark at n m None lo few f k e z = absurd (full_none z)
 
 -- each disjunct takes an entry or more
-after_few : (at n m : ℕ) (r : Filed) → n + at ≤ m → ((k e : ℕ) → r ≡ filed.Sets k e → k + m ≤ e) → (k e : ℕ) → after n r ≡ filed.Sets k e → k + at ≤ e
+after_few : (at n m : ℕ) (r : Option Filed) → n + at ≤ m → ((k e : ℕ) → r ≡ filed_sets k e → k + m ≤ e) → (k e : ℕ) → after n r ≡ filed_sets k e → k + at ≤ e
 unfolding after
-after_few at n m (filed.Sets p q) lo few k e z =
+after_few at n m (Some g) lo few k e z =
     let w = answer_end z in
     let v = answer_count z in
-    let b = few p q refl in
+    let b = few g.sets g.end refl in
     omega arith
-after_few at n m filed.Full lo few k e z = absurd (full_none z)
+after_few at n m None lo few k e z = absurd (full_none z)
 
 module _ {names rows lists names₁ rows₁ lists₁ : List ℕ} {named mark at count : ℕ} {s : Sets} {f : FilingState} where
   -- filing after filing
-  comes_then : {names₂ rows₂ lists₂ : List ℕ} {n m more : ℕ} {r : Filed} (t : Sets) (step : FilingState → FilingState) → named ≤ 2048 → 8192 ≤ length lists
-      → Comes names rows lists names₁ rows₁ lists₁ named mark at s f count (filed.Sets n m)
+  comes_then : {names₂ rows₂ lists₂ : List ℕ} {n m more : ℕ} {r : Option Filed} (t : Sets) (step : FilingState → FilingState) → named ≤ 2048 → 8192 ≤ length lists
+      → Comes names rows lists names₁ rows₁ lists₁ named mark at s f count (filed_sets n m)
       → Comes names₁ rows₁ lists₁ names₂ rows₂ lists₂ named (mark + (m - at)) m t (step (filing names₁ rows₁ lists₁ (mark + (m - at)) m)) more r
       → Comes names rows lists names₂ rows₂ lists₂ named mark at (λ exclude name. s exclude name ++ t exclude name) (step f) (count + more) (after n r)
   unfolding filed_end
@@ -263,7 +265,7 @@ module _ {names rows lists names₁ rows₁ lists₁ : List ℕ} {named mark at 
       }
 
   -- the same disjuncts, said in another way
-  pub comes_as : {t : Sets} {g : FilingState} {as_many : ℕ} {r : Filed} → ((exclude : List Name) (name : ℕ → Name) → s exclude name ≡ t exclude name) → f ≡ g
+  pub comes_as : {t : Sets} {g : FilingState} {as_many : ℕ} {r : Option Filed} → ((exclude : List Name) (name : ℕ → Name) → s exclude name ≡ t exclude name) → f ≡ g
       → count ≡ as_many
       → Comes names rows lists names₁ rows₁ lists₁ named mark at s f count r → Comes names rows lists names₁ rows₁ lists₁ named mark at t g as_many r
   comes_as q p n c = record {
@@ -273,14 +275,14 @@ module _ {names rows lists names₁ rows₁ lists₁ : List ℕ} {named mark at 
   }
 
   -- the same answer
-  pub comes_is : {r r' : Filed} → r ≡ r' → Comes names rows lists names₁ rows₁ lists₁ named mark at s f count r
+  pub comes_is : {r r' : Option Filed} → r ≡ r' → Comes names rows lists names₁ rows₁ lists₁ named mark at s f count r
       → Comes names rows lists names₁ rows₁ lists₁ named mark at s f count r'
   comes_is e c = rw e at c
 
   -- where there is no room for disjuncts there is none for more
   pub comes_more : {t : Sets} {g : FilingState} {as_many : ℕ} → ((exclude : List Name) (name : ℕ → Name) → entries (s exclude name) ≤ entries (t exclude name))
       → (f.full ≡ true → g ≡ f)
-      → Comes names rows lists names₁ rows₁ lists₁ named mark at s f count filed.Full → Comes names rows lists names₁ rows₁ lists₁ named mark at t g as_many filed.Full
+      → Comes names rows lists names₁ rows₁ lists₁ named mark at s f count None → Comes names rows lists names₁ rows₁ lists₁ named mark at t g as_many None
   comes_more {t} q p c = record {
     files = λ exclude name d. full (q exclude name) (c.files exclude name d);
     filled = c.filled;
@@ -288,18 +290,18 @@ module _ {names rows lists names₁ rows₁ lists₁ : List ℕ} {named mark at 
         c.filed_as;
   }
     where
-      full : {name : ℕ → Name} {u v : List (List Name)} → entries u ≤ entries v → Files name named u at lists₁ filed.Full → Files name named v at lists₁ filed.Full
+      full : {name : ℕ → Name} {u v : List (List Name)} → entries u ≤ entries v → Files name named u at lists₁ None → Files name named v at lists₁ None
       full h (no_room p) = no_room (omega arith)
 
 -- no disjunct is filed
-files_none : (name : ℕ → Name) (named at : ℕ) (lists : List ℕ) → at ≤ 8192 → Files name named [] at lists (filed.Sets 0 at)
+files_none : (name : ℕ → Name) (named at : ℕ) (lists : List ℕ) → at ≤ 8192 → Files name named [] at lists (filed_sets 0 at)
 unfolding disjuncts_of disjuncts_of_words entries sum
 files_none name named at lists h = all_sets {n = 0} {e = at} (rw (part_nil lists at at (omega arith))) refl (omega arith) h
     (rw (part_nil lists at at (omega arith)) (no_entries named))
 
 -- no disjunct comes to none
 pub comes_none : {names rows lists : List ℕ} {named mark at : ℕ} → Opened names rows lists mark at
-    → Comes names rows lists names rows lists named mark at (λ exclude name. []) (filing names rows lists mark at) 0 (filed.Sets 0 at)
+    → Comes names rows lists names rows lists named mark at (λ exclude name. []) (filing names rows lists mark at) 0 (filed_sets 0 at)
 unfolding filed_end
 comes_none {names} {rows} {lists} {named} {mark} {at} h = record {
   files = λ exclude name d. files_none name named at lists h.low;
@@ -317,7 +319,7 @@ comes_none {names} {rows} {lists} {named} {mark} {at} h = record {
 
 -- the slices after filing are ready for more
 pub opened_then : {names rows lists names₁ rows₁ lists₁ : List ℕ} {named mark at count n m : ℕ} {s : Sets} {f : FilingState} → Opened names rows lists mark at
-    → Comes names rows lists names₁ rows₁ lists₁ named mark at s f count (filed.Sets n m) → Opened names₁ rows₁ lists₁ (mark + (m - at)) m
+    → Comes names rows lists names₁ rows₁ lists₁ named mark at s f count (filed_sets n m) → Opened names₁ rows₁ lists₁ (mark + (m - at)) m
 unfolding filed_end
 opened_then {n = n} {m = m} h c = record {
   name_room = rw c.filled.names_same.same_length h.name_room;
@@ -329,25 +331,25 @@ opened_then {n = n} {m = m} h c = record {
 
 -- where the entries so far end
 pub comes_ends : {names rows lists names₁ rows₁ lists₁ : List ℕ} {named mark at count n m : ℕ} {s : Sets} {f : FilingState}
-    → Comes names rows lists names₁ rows₁ lists₁ named mark at s f count (filed.Sets n m) → (at ≤ m) × (m ≤ 8192) × (n + at ≤ m)
+    → Comes names rows lists names₁ rows₁ lists₁ named mark at s f count (filed_sets n m) → (at ≤ m) × (m ≤ 8192) × (n + at ≤ m)
 unfolding filed_end
 comes_ends {n = n} {m = m} c = (c.filled.low, c.filled.high, c.filled.few n m refl)
 
 -- an answer after so many, without room
-pub after_full : (n : ℕ) {r : Filed} → r ≡ filed.Full → after n r ≡ filed.Full
+pub after_full : (n : ℕ) {r : Option Filed} → r ≡ None → after n r ≡ None
 unfolding after
 after_full n e = rw e
 
 -- an answer after so many
-pub after_sets : (n k e j : ℕ) {r : Filed} → r ≡ filed.Sets k e → n + k ≡ j → after n r ≡ filed.Sets j e
+pub after_sets : (n k e j : ℕ) {r : Option Filed} → r ≡ filed_sets k e → n + k ≡ j → after n r ≡ filed_sets j e
 unfolding after
 after_sets n k e j p q = rw (p, q)
 
 -- filing after filing, said in another way
-pub comes_next : {names rows lists names₁ rows₁ lists₁ names₂ rows₂ lists₂ : List ℕ} {named mark at count n m more as_many : ℕ} {f g : FilingState} {r : Filed}
+pub comes_next : {names rows lists names₁ rows₁ lists₁ names₂ rows₂ lists₂ : List ℕ} {named mark at count n m more as_many : ℕ} {f g : FilingState} {r : Option Filed}
     (s t u : Sets) (step : FilingState → FilingState) → named ≤ 2048 → 8192 ≤ length lists
     → ((exclude : List Name) (name : ℕ → Name) → s exclude name ++ t exclude name ≡ u exclude name) → step f ≡ g → count + more ≡ as_many
-    → Comes names rows lists names₁ rows₁ lists₁ named mark at s f count (filed.Sets n m)
+    → Comes names rows lists names₁ rows₁ lists₁ named mark at s f count (filed_sets n m)
     → Comes names₁ rows₁ lists₁ names₂ rows₂ lists₂ named (mark + (m - at)) m t (step (filing names₁ rows₁ lists₁ (mark + (m - at)) m)) more r
     → Comes names rows lists names₂ rows₂ lists₂ named mark at u g as_many (after n r)
 comes_next s t u step few long q p i c d = comes_as q p i (comes_then t step few long c d)
@@ -355,14 +357,14 @@ comes_next s t u step few long q p i c d = comes_as q p i (comes_then t step few
 -- ---- the promises of the functions
 
 -- they hold of what filing comes to
-pub posts : {names rows lists names₁ rows₁ lists₁ : List ℕ} {named mark at count : ℕ} {s : Sets} {f : FilingState} {r : Filed}
+pub posts : {names rows lists names₁ rows₁ lists₁ : List ℕ} {named mark at count : ℕ} {s : Sets} {f : FilingState} {r : Option Filed}
     → Comes names rows lists names₁ rows₁ lists₁ named mark at s f count r
     → ((exclude : List Name) (name : ℕ → Name) → Named exclude name names named → Files name named (s exclude name) at lists₁ r)
     × (EntriesFilled names rows lists names₁ rows₁ lists₁ mark at r × FilesAs f count names₁ rows₁ lists₁ mark at r)
 posts c = (c.files, (c.filled, c.filed_as))
 
 -- and say what it comes to
-pub comes_of : {names rows lists names₁ rows₁ lists₁ : List ℕ} {named mark at count : ℕ} {f : FilingState} {r : Filed} (s : Sets)
+pub comes_of : {names rows lists names₁ rows₁ lists₁ : List ℕ} {named mark at count : ℕ} {f : FilingState} {r : Option Filed} (s : Sets)
     → ((exclude : List Name) (name : ℕ → Name) → Named exclude name names named → Files name named (s exclude name) at lists₁ r)
     × (EntriesFilled names rows lists names₁ rows₁ lists₁ mark at r × FilesAs f count names₁ rows₁ lists₁ mark at r)
     → Comes names rows lists names₁ rows₁ lists₁ named mark at s f count r
@@ -375,17 +377,17 @@ abbrev pub term_sets : List ℕ → List ℕ → ℕ → ℕ → ℕ → Sets
 term_sets refs rows used many t exclude name = term_set refs rows used many t exclude name ∷ []
 
 -- the first has no room
-pub two_first : {names rows lists names₁ rows₁ lists₁ refs : List ℕ} {used many named mark at count : ℕ} {f : FilingState} {r : Filed} (t u : ℕ)
-    → Rows refs rows used many named → r ≡ filed.Full
+pub two_first : {names rows lists names₁ rows₁ lists₁ refs : List ℕ} {used many named mark at count : ℕ} {f : FilingState} {r : Option Filed} (t u : ℕ)
+    → Rows refs rows used many named → r ≡ None
     → Comes names rows lists names₁ rows₁ lists₁ named mark at (term_sets refs rows used many t) f count r
-    → Comes names rows lists names₁ rows₁ lists₁ named mark at (λ exclude name. term_set refs rows used many t exclude name ∷ term_set refs rows used many u exclude name ∷ []) (file_list refs used many f (u ∷ [])) 2 filed.Full
+    → Comes names rows lists names₁ rows₁ lists₁ named mark at (λ exclude name. term_set refs rows used many t exclude name ∷ term_set refs rows used many u exclude name ∷ []) (file_list refs used many f (u ∷ [])) 2 None
 two_first {rows = rows} {refs = refs} {used} {many} {f = f} t u h e c = comes_more
     (λ exclude name. omega (arith, entries_append (term_set refs rows used many t exclude name ∷ []) (term_set refs rows used many u exclude name ∷ [])))
     (list_stays refs used many f (u ∷ [])) (comes_is e c)
 
-module _ {names rows lists names₁ rows₁ lists₁ names₂ rows₂ lists₂ refs : List ℕ} {used many named mark at n m : ℕ} {f : FilingState} {r : Filed} (t u : ℕ)
+module _ {names rows lists names₁ rows₁ lists₁ names₂ rows₂ lists₂ refs : List ℕ} {used many named mark at n m : ℕ} {f : FilingState} {r : Option Filed} (t u : ℕ)
     (h : Rows refs rows used many named) (long : 8192 ≤ length lists)
-    (c : Comes names rows lists names₁ rows₁ lists₁ named mark at (term_sets refs rows used many t) f 1 (filed.Sets n m))
+    (c : Comes names rows lists names₁ rows₁ lists₁ named mark at (term_sets refs rows used many t) f 1 (filed_sets n m))
     (d : Comes names₁ rows₁ lists₁ names₂ rows₂ lists₂ named (mark + (m - at)) m (term_sets refs rows₁ used many u)
     (file_list refs used many (filing names₁ rows₁ lists₁ (mark + (m - at)) m) (u ∷ [])) 1 r) where
   -- both, with the answer of the second
@@ -397,15 +399,15 @@ module _ {names rows lists names₁ rows₁ lists₁ names₂ rows₂ lists₂ r
       (terms_marked name c.filled.rows_same h)) refl refl c d
 
   -- the second has no room
-  pub two_full : r ≡ filed.Full → Comes names rows lists names₂ rows₂ lists₂ named mark at
+  pub two_full : r ≡ None → Comes names rows lists names₂ rows₂ lists₂ named mark at
       (λ exclude name. term_set refs rows used many t exclude name ∷ term_set refs rows used many u exclude name ∷ [])
-      (file_list refs used many f (u ∷ [])) 2 filed.Full
+      (file_list refs used many f (u ∷ [])) 2 None
   two_full e = comes_is (after_full n e) two_then
 
   -- both are filed
-  pub two_both : {k e : ℕ} → r ≡ filed.Sets k e → Comes names rows lists names₂ rows₂ lists₂ named mark at
+  pub two_both : {k e : ℕ} → r ≡ filed_sets k e → Comes names rows lists names₂ rows₂ lists₂ named mark at
       (λ exclude name. term_set refs rows used many t exclude name ∷ term_set refs rows used many u exclude name ∷ []) (file_list refs used many f (u ∷ [])) 2
-      (filed.Sets 2 e)
+      (filed_sets 2 e)
   two_both {k} {e} q =
       let x = words_count refl c.filed_as in
       let y = words_count q d.filed_as in

@@ -17,14 +17,12 @@ use Rattle.terms.proofs.Groups.{Before, group_first, group_next, group_place, gr
 use Rattle.words.specs.Slices.{SameBut}
 use Rattle.gather.specs.Sets.{Fresh, Gathers, all_names, no_room, Gathered}
 use Rattle.gather.specs.Visits.{visit_list, marked_at, WalksAs}
-use Rattle.gather.specs.declared.Walked.{Walked}
-use Rattle.gather.specs.declared.Walked.TheVariants as gathered
+use Rattle.std.specs.Prelude.{Option, None, Some}
 use Rattle.gather.proofs.Walking.{rows_marked}
 use Rattle.gather.proofs.Rendering.{answer_names, answer_full}
 use Rattle.words.proofs.Slices.{same_self}
 use Rattle.triggers.specs.declared.Filed.{Filed}
-use Rattle.triggers.specs.declared.Filed.TheVariants as filed
-use Rattle.triggers.specs.Entries.{Opened}
+use Rattle.triggers.specs.Entries.{filed_sets, Opened}
 use Rattle.triggers.specs.Filings.{FilingState, filing, file_list, file_groups, file_parts, ask_empty, AsksAs}
 use Rattle.triggers.proofs.Disjuncts.{entries_append}
 use Rattle.triggers.proofs.Marked.{terms_marked, groups_marked, All, patterns, triggers_all, triggers_none, groups_more, groups_fewer}
@@ -91,10 +89,10 @@ module _ {refs rows : List ℕ} {used many named t groups u e : ℕ} (r : Rows r
     group_terms = rw run_is (group_place r all.lower all.quantifier before)
 
     -- the group filed after those before it
-    pub groups_then : {names lists names₁ rows₁ lists₁ names₂ rows₂ lists₂ : List ℕ} {mark at end : ℕ} {f : Filed} → 8192 ≤ length lists
+    pub groups_then : {names lists names₁ rows₁ lists₁ names₂ rows₂ lists₂ : List ℕ} {mark at end : ℕ} {f : Option Filed} → 8192 ≤ length lists
         → Comes names rows lists names₁ rows₁ lists₁ named mark at (λ exclude name. map (names_of exclude name)
         (groups_of_words (patterns refs rows used many u) g))
-        (fold_left (file_list refs used many) (filing names rows lists mark at) (groups_of_words (patterns refs rows used many u) g)) g (filed.Sets g end)
+        (fold_left (file_list refs used many) (filing names rows lists mark at) (groups_of_words (patterns refs rows used many u) g)) g (filed_sets g end)
         → Comes names₁ rows₁ lists₁ names₂ rows₂ lists₂ named (mark + (end - at)) end
         (λ exclude name. group_names exclude (terms_of name refs rows₁ used many) (terms_of_words (part refs a b)) ∷ [])
         (file_list refs used many (filing names₁ rows₁ lists₁ (mark + (end - at)) end) (terms_of_words (part refs a b))) 1 f
@@ -114,13 +112,13 @@ module _ {refs rows : List ℕ} {used many named t groups u e : ℕ} (r : Rows r
 
   module _ {names lists names₁ rows₁ lists₁ : List ℕ} {mark at : ℕ} (l : t < many) where
     -- where a group has no room there is none for all
-    pub groups_full : {g count : ℕ} {f : Filed} → g < groups → f ≡ filed.Full
+    pub groups_full : {g count : ℕ} {f : Option Filed} → g < groups → f ≡ None
         → Comes names rows lists names₁ rows₁ lists₁ named mark at (λ exclude name. map (names_of exclude name)
         (groups_of_words (patterns refs rows used many u) (g + 1)))
         (fold_left (file_list refs used many) (filing names rows lists mark at) (groups_of_words (patterns refs rows used many u) (g + 1))) (g + 1)
         (after g f)
         → Comes names rows lists names₁ rows₁ lists₁ named mark at (λ exclude name. triggers_of_term exclude (terms_of name refs rows used many) t)
-        (file_groups refs used many (filing names rows lists mark at) t) count filed.Full
+        (file_groups refs used many (filing names rows lists mark at) t) count None
     groups_full {g} h e c = comes_as (triggers_all r l all) (filed_all refs used many (filing names rows lists mark at) all) refl
         (comes_more (λ exclude name. groups_fewer (names_of exclude name) (patterns refs rows used many u) (g + 1) groups (omega arith))
         (filed_groups refs used many (filing names rows lists mark at) (patterns refs rows used many u) (g + 1) groups (omega arith))
@@ -130,9 +128,9 @@ module _ {refs rows : List ℕ} {used many named t groups u e : ℕ} (r : Rows r
     pub groups_done : {g end : ℕ} → g ≤ groups → groups ≤ g
         → Comes names rows lists names₁ rows₁ lists₁ named mark at (λ exclude name. map (names_of exclude name)
         (groups_of_words (patterns refs rows used many u) g))
-        (fold_left (file_list refs used many) (filing names rows lists mark at) (groups_of_words (patterns refs rows used many u) g)) g (filed.Sets g end)
+        (fold_left (file_list refs used many) (filing names rows lists mark at) (groups_of_words (patterns refs rows used many u) g)) g (filed_sets g end)
         → Comes names rows lists names₁ rows₁ lists₁ named mark at (λ exclude name. triggers_of_term exclude (terms_of name refs rows used many) t)
-        (file_groups refs used many (filing names rows lists mark at) t) (groups_at rows t) (filed.Sets groups end)
+        (file_groups refs used many (filing names rows lists mark at) t) (groups_at rows t) (filed_sets groups end)
     groups_done {g} {end} h k c =
         let q : g ≡ groups = omega arith in
         comes_as
@@ -140,14 +138,14 @@ module _ {refs rows : List ℕ} {used many named t groups u e : ℕ} (r : Rows r
         (ap (λ n. fold_left (file_list refs used many) (filing names rows lists mark at) (groups_of_words (patterns refs rows used many u) n)) q
         ∙ filed_all refs used many (filing names rows lists mark at) all)
         (q ∙ all.counted ∙ sym (groups_all rows t u all.bare all.is_all))
-        (comes_is (ap (λ n. filed.Sets n end) q) c)
+        (comes_is (ap (λ n. filed_sets n end) q) c)
 
 -- one group more, with its answer
-pub groups_again : {names rows lists names₁ rows₁ lists₁ names₂ rows₂ lists₂ : List ℕ} {named mark mark₁ at m k e : ℕ} {f : Filed} {s t : Sets} {x y : FilingState}
-    (g : ℕ) → f ≡ filed.Sets k e
+pub groups_again : {names rows lists names₁ rows₁ lists₁ names₂ rows₂ lists₂ : List ℕ} {named mark mark₁ at m k e : ℕ} {f : Option Filed} {s t : Sets} {x y : FilingState}
+    (g : ℕ) → f ≡ filed_sets k e
     → Comes names₁ rows₁ lists₁ names₂ rows₂ lists₂ named mark₁ m t y 1 f
     → Comes names rows lists names₂ rows₂ lists₂ named mark at s x (g + 1) (after g f)
-    → Comes names rows lists names₂ rows₂ lists₂ named mark at s x (g + 1) (filed.Sets (g + 1) e)
+    → Comes names rows lists names₂ rows₂ lists₂ named mark at s x (g + 1) (filed_sets (g + 1) e)
 groups_again {k = k} {e = e} g p d c =
     let q = words_count p d.filed_as in
     comes_is (after_sets g k e (g + 1) p (omega arith)) c
@@ -156,7 +154,7 @@ groups_again {k = k} {e = e} g p d c =
 pub groups_start : {rows names lists : List ℕ} {named mark at : ℕ} (f : List Name → (ℕ → Name) → List ℕ → List Name) (step : FilingState → List ℕ → FilingState)
     (ws : List ℕ) → Opened names rows lists mark at
     → Comes names rows lists names rows lists named mark at (λ exclude name. map (f exclude name) (groups_of_words ws 0))
-    (fold_left step (filing names rows lists mark at) (groups_of_words ws 0)) 0 (filed.Sets 0 at)
+    (fold_left step (filing names rows lists mark at) (groups_of_words ws 0)) 0 (filed_sets 0 at)
 unfolding groups_of_words fold_left
 groups_start f step ws h = comes_none h
 
@@ -164,7 +162,7 @@ groups_start f step ws h = comes_none h
 pub groups_none : {refs rows names lists : List ℕ} {used many named mark at groups : ℕ} (t : ℕ) → Rows refs rows used many named → t < many
     → groups ≡ groups_at rows t → groups ≡ 0 → Opened names rows lists mark at
     → Comes names rows lists names rows lists named mark at (λ exclude name. triggers_of_term exclude (terms_of name refs rows used many) t)
-    (file_groups refs used many (filing names rows lists mark at) t) (groups_at rows t) (filed.Sets 0 at)
+    (file_groups refs used many (filing names rows lists mark at) t) (groups_at rows t) (filed_sets 0 at)
 groups_none {refs} {rows} {names} {lists} {used} {many} {mark = mark} {at} t r l c z h =
     comes_as (λ exclude name. sym (triggers_none r l c z exclude name)) (filed_none refs used many (filing names rows lists mark at) t c z) (sym z ∙ c)
     (comes_none h)
@@ -205,15 +203,15 @@ module _ {refs rows names lists : List ℕ} {used many named mark at a e : ℕ} 
     (in_use : e ≤ used) where
   -- no term files nothing
   pub list_start : {i : ℕ} → i ≡ a → Comes names rows lists names rows lists named mark at (list_sets refs rows used many a i)
-      (file_parts refs used many (filing names rows lists mark at) (terms_of_words (part refs a i))) (list_count refs rows a i) (filed.Sets 0 at)
+      (file_parts refs used many (filing names rows lists mark at) (terms_of_words (part refs a i))) (list_count refs rows a i) (filed_sets 0 at)
   unfolding file_parts terms_of_words fold_left sum
   list_start {i} q = comes_as (λ exclude name. list_none (triggers_of_term exclude (terms_of name refs rows used many)) refs a i q)
       (rw (part_nil refs a i (omega arith))) (rw (part_nil refs a i (omega arith))) (comes_none h)
 
-  module _ {names₁ rows₁ lists₁ names₂ rows₂ lists₂ : List ℕ} {count end i t : ℕ} {f : Filed} (low : a ≤ i) (high : i < e) (is : t ≡ get_or refs i 0 % 4096)
+  module _ {names₁ rows₁ lists₁ names₂ rows₂ lists₂ : List ℕ} {count end i t : ℕ} {f : Option Filed} (low : a ≤ i) (high : i < e) (is : t ≡ get_or refs i 0 % 4096)
       (lower : t < many)
       (c : Comes names rows lists names₁ rows₁ lists₁ named mark at (list_sets refs rows used many a i)
-      (file_parts refs used many (filing names rows lists mark at) (terms_of_words (part refs a i))) (list_count refs rows a i) (filed.Sets count end))
+      (file_parts refs used many (filing names rows lists mark at) (terms_of_words (part refs a i))) (list_count refs rows a i) (filed_sets count end))
       (d : Comes names₁ rows₁ lists₁ names₂ rows₂ lists₂ named (mark + (end - at)) end
       (λ exclude name. triggers_of_term exclude (terms_of name refs rows₁ used many) t)
       (file_groups refs used many (filing names₁ rows₁ lists₁ (mark + (end - at)) end) t) (groups_at rows₁ t) f) where
@@ -232,8 +230,8 @@ module _ {refs rows names lists : List ℕ} {used many named mark at a e : ℕ} 
         (ap (λ n. list_count refs rows a i + n) (groups_marked c.filled.rows_same r t lower) ∙ counted_more rows refs a i t low list_fits is) c d
 
     -- where there is no room for them there is none for all
-    pub list_full : f ≡ filed.Full → Comes names rows lists names₂ rows₂ lists₂ named mark at (list_sets refs rows used many a e)
-        (file_parts refs used many (filing names rows lists mark at) (terms_of_words (part refs a e))) (list_count refs rows a e) filed.Full
+    pub list_full : f ≡ None → Comes names rows lists names₂ rows₂ lists₂ named mark at (list_sets refs rows used many a e)
+        (file_parts refs used many (filing names rows lists mark at) (terms_of_words (part refs a e))) (list_count refs rows a e) None
     list_full q = comes_more
         (λ exclude name. list_fewer (triggers_of_term exclude (terms_of name refs rows used many)) refs a (i + 1) e (omega arith) (omega arith)
         (omega (arith, r.few_references, r.ref_room)))
@@ -241,9 +239,9 @@ module _ {refs rows names lists : List ℕ} {used many named mark at a e : ℕ} 
         (comes_is (after_full count q) list_then)
 
     -- the triggers up to the next place
-    pub list_next : {k m : ℕ} → f ≡ filed.Sets k m → Comes names rows lists names₂ rows₂ lists₂ named mark at (list_sets refs rows used many a (i + 1))
+    pub list_next : {k m : ℕ} → f ≡ filed_sets k m → Comes names rows lists names₂ rows₂ lists₂ named mark at (list_sets refs rows used many a (i + 1))
         (file_parts refs used many (filing names rows lists mark at) (terms_of_words (part refs a (i + 1)))) (list_count refs rows a (i + 1))
-        (filed.Sets (count + k) m)
+        (filed_sets (count + k) m)
     list_next {k} {m} q = comes_is (after_sets count k m (count + k) q refl) list_then
 
   -- a term without groups is passed over
@@ -251,17 +249,17 @@ module _ {refs rows names lists : List ℕ} {used many named mark at a e : ℕ} 
       → groups ≡ groups_at rows₁ t → groups ≡ 0
       → Comes names rows lists names₁ rows₁ lists₁ named mark at (list_sets refs rows used many a i)
       (file_parts refs used many (filing names rows lists mark at) (terms_of_words (part refs a i))) (list_count refs rows a i)
-      (filed.Sets count end)
+      (filed_sets count end)
       → Comes names rows lists names₁ rows₁ lists₁ named mark at (list_sets refs rows used many a (i + 1))
       (file_parts refs used many (filing names rows lists mark at) (terms_of_words (part refs a (i + 1))))
-      (list_count refs rows a (i + 1)) (filed.Sets count end)
+      (list_count refs rows a (i + 1)) (filed_sets count end)
   list_pass {count = count} {end} {t = t} low high is lower g z c =
       let same : count + 0 ≡ count = omega arith in
-      comes_is (ap (λ n. filed.Sets n end) same)
+      comes_is (ap (λ n. filed_sets n end) same)
       (list_next low high is lower c (groups_none t (rows_marked c.filled.rows_same r) lower g z (opened_then h c)) refl)
 
   -- the triggers up to the end
-  pub list_done : {names₁ rows₁ lists₁ : List ℕ} {i : ℕ} {f : Filed} → a ≤ i → i ≤ e → e ≤ i
+  pub list_done : {names₁ rows₁ lists₁ : List ℕ} {i : ℕ} {f : Option Filed} → a ≤ i → i ≤ e → e ≤ i
       → Comes names rows lists names₁ rows₁ lists₁ named mark at (list_sets refs rows used many a i)
       (file_parts refs used many (filing names rows lists mark at) (terms_of_words (part refs a i))) (list_count refs rows a i) f
       → Comes names rows lists names₁ rows₁ lists₁ named mark at (list_sets refs rows used many a e)
@@ -341,7 +339,7 @@ module _ {refs rows : List ℕ} {used many named t groups u e : ℕ} (r : Rows r
         ∙ ap (λ g. map (group_names exclude (terms_of name refs rows used many)) (groups_of_words (patterns refs rows used many u) g)) one
         ∙ ap (λ ts. group_names exclude (terms_of name refs rows used many) ts ∷ []) (sym single_terms)
 
-    module _ {names lists names' rows' lists' : List ℕ} {mark at : ℕ} {w : Walked} (g : Gathered names rows lists names' rows' lists' mark at at w)
+    module _ {names lists names' rows' lists' : List ℕ} {mark at : ℕ} {w : Option ℕ} (g : Gathered names rows lists names' rows' lists' mark at at w)
         (x : WalksAs (visit_list names refs rows used many (at - at) (terms_of_words (part refs a e))) names rows lists names' rows' lists' mark at w) where
       -- every word of the slices after gathering them without room
       single_words : (b : Bool) → (visit_list names refs rows used many (at - at) (terms_of_words (part refs a e))).full ≡ b
@@ -356,30 +354,35 @@ module _ {refs rows : List ℕ} {used many named t groups u e : ℕ} (r : Rows r
           }
 
       -- where there is no name
-      pub single_none : {n : ℕ} → w ≡ gathered.Names n → AsksAs (ask_empty refs used many names rows t) names rows lists names' rows' lists' mark true
+      pub single_none : {n : ℕ} → w ≡ Some n → AsksAs (ask_empty refs used many names rows t) names rows lists names' rows' lists' mark true
       single_none e = single_words false (answer_names at _ (sym e ∙ x.answer)).0
 
       -- and where there is one
-      pub single_some : w ≡ gathered.Full → AsksAs (ask_empty refs used many names rows t) names rows lists names' rows' lists' mark false
+      pub single_some : w ≡ None → AsksAs (ask_empty refs used many names rows t) names rows lists names' rows' lists' mark false
       single_some e = single_words true (answer_full at _ (sym e ∙ x.answer))
 
     -- a gathered set that has no name is empty, and one that has no room is not
-    pub single_empty : (exclude : List Name) {name : ℕ → Name} {at n : ℕ} {lists : List ℕ} {f : Walked} → f ≡ gathered.Names n
+    pub single_empty : (exclude : List Name) {name : ℕ → Name} {at n : ℕ} {lists : List ℕ} {f : Option ℕ} → f ≡ Some n
         → Gathers name named (group_names exclude (terms_of name refs rows used many) (terms_of_words (part refs a e))) at at lists f
         → true ≡ is_empty (triggers_of_term exclude (terms_of name refs rows used many) t)
     single_empty exclude {name} p g = rw (single_trigger exclude name) (empty_nil _ (none (rw p at g)))
       where
-        none : {name : ℕ → Name} {s : List Name} {at n : ℕ} {lists : List ℕ} → Gathers name named s at at lists (gathered.Names n) → length s ≡ 0
+        none : {name : ℕ → Name} {s : List Name} {at n : ℕ} {lists : List ℕ} → Gathers name named s at at lists (Some n) → length s ≡ 0
         none (all_names is count fits small) = omega arith
 
     -- the other answer
-    pub single_full : (exclude : List Name) {name : ℕ → Name} {at : ℕ} {lists : List ℕ} {f : Walked} → f ≡ gathered.Full
+    pub single_full : (exclude : List Name) {name : ℕ → Name} {at : ℕ} {lists : List ℕ} {f : Option ℕ} → f ≡ None
         → Gathers name named (group_names exclude (terms_of name refs rows used many) (terms_of_words (part refs a e))) at at lists f
         → false ≡ is_empty (triggers_of_term exclude (terms_of name refs rows used many) t)
     single_full exclude {name} p g = rw (single_trigger exclude name) (empty_some _ (some (rw p at g)))
       where
-        some : {name : ℕ → Name} {s : List Name} {at : ℕ} {lists : List ℕ} → Gathers name named s at at lists gathered.Full → 0 < length s
+        some : {name : ℕ → Name} {s : List Name} {at : ℕ} {lists : List ℕ} → Gathers name named s at at lists None → 0 < length s
         some (no_room h f) = omega arith
+
+-- an answer is a number or none
+pub by_option : {P : Type 0} (w : Option ℕ) → ((n : ℕ) → w ≡ Some n → P) → (w ≡ None → P) → P
+by_option (Some n) f g = f n refl
+by_option None f g = g refl
 
 -- tables that nothing was marked in
 pub tables_kept : (names rows : List ℕ) (mark : ℕ) → Fresh names rows mark
@@ -387,7 +390,7 @@ pub tables_kept : (names rows : List ℕ) (mark : ℕ) → Fresh names rows mark
 tables_kept names rows mark f = (same_self 8192 2048 names, same_self 12288 4096 rows, fresh_later mark (mark + 1) (omega arith) f)
 
 -- tables that one set was marked in
-pub tables_gathered : {names rows lists names' rows' lists' : List ℕ} {mark at room : ℕ} {r : Walked} → Fresh names rows mark
+pub tables_gathered : {names rows lists names' rows' lists' : List ℕ} {mark at room : ℕ} {r : Option ℕ} → Fresh names rows mark
     → Gathered names rows lists names' rows' lists' mark at room r
     → SameBut 8192 2048 names names' × SameBut 12288 4096 rows rows' × Fresh names' rows' (mark + 1)
 tables_gathered f g = (g.names_same, g.rows_same, fresh_next f g)

@@ -17,14 +17,12 @@ use Rattle.model.proofs.PartLaws.{part_nil}
 use Rattle.terms.specs.Rows.{terms_of_words, group_of_words, groups_of_words, groups_at}
 use Rattle.terms.proofs.Laws.{below, groups_all}
 use Rattle.terms.proofs.Groups.{terms_split, terms_more}
-use Rattle.gather.specs.declared.Walked.{Walked}
-use Rattle.gather.specs.declared.Walked.TheVariants as gathered
+use Rattle.std.specs.Prelude.{Option, None, Some}
 use Rattle.gather.specs.Sets.{Gathered, ended}
 use Rattle.gather.specs.Visits.{Visit, visit_list, marked_at, put, WalksAs}
 use Rattle.gather.proofs.Rendering.{answer_names, answer_full}
 use Rattle.triggers.specs.declared.Filed.{Filed}
-use Rattle.triggers.specs.declared.Filed.TheVariants as filed
-use Rattle.triggers.specs.Entries.{filed_end, Closes, last, empty, over, Opened}
+use Rattle.triggers.specs.Entries.{filed_sets, filed_end, Closes, last, empty, over, Opened}
 use Rattle.triggers.specs.Filings.{FilingState, filing, set_words, file_set, file_list, groups_under, file_groups, file_parts, ask_empty, AsksAs, FilesAs, as_sets, as_full}
 use Rattle.triggers.proofs.Marked.{All, patterns, groups_here}
 
@@ -65,16 +63,16 @@ set_by f v p q = rw (p, q)
 filing_as : {a a' b b' c c' : List ℕ} {m m' e e' : ℕ} → a ≡ a' → b ≡ b' → c ≡ c' → m ≡ m' → e ≡ e' → filing a b c m e ≡ filing a' b' c' m' e'
 filing_as p q s t u = rw (p, q, s, t, u)
 
-module _ {names rows lists names₁ rows₁ lists₁ : List ℕ} {mark at : ℕ} {v : Visit} {w : Walked} (h : Opened names rows lists mark at)
+module _ {names rows lists names₁ rows₁ lists₁ : List ℕ} {mark at : ℕ} {v : Visit} {w : Option ℕ} (h : Opened names rows lists mark at)
     (x : WalksAs v names rows lists names₁ rows₁ lists₁ mark at w) where
   -- a set whose names have no room
-  pub words_over : w ≡ gathered.Full → FilesAs (file_set (filing names rows lists mark at) v) 1 names₁ rows₁ lists₁ mark at filed.Full
+  pub words_over : w ≡ None → FilesAs (file_set (filing names rows lists mark at) v) 1 names₁ rows₁ lists₁ mark at None
   words_over e =
       let q = answer_full at v (sym e ∙ x.answer) in
       rw (set_by (filing names rows lists mark at) v {b = true} (rw q) refl) (as_full refl x.name_words x.row_words x.lists_words)
 
   -- a set that was ended
-  pub words_closed : {end : ℕ} {lists₂ : List ℕ} {r : Filed} → w ≡ gathered.Names end → end ≤ 8192 → Closes lists₁ lists₂ at end r
+  pub words_closed : {end : ℕ} {lists₂ : List ℕ} {r : Option Filed} → w ≡ Some end → end ≤ 8192 → Closes lists₁ lists₂ at end r
       → FilesAs (file_set (filing names rows lists mark at) v) 1 names₁ rows₁ lists₂ mark at r
   unfolding set_words put
   words_closed {end} {lists₂} e fits (last some q) =
@@ -87,7 +85,7 @@ module _ {names rows lists names₁ rows₁ lists₁ : List ℕ} {mark at : ℕ}
       ∙ filing_as (sym x.name_words) (sym x.row_words) written (omega arith) (omega arith))
   words_closed {end} {lists₂} e fits (empty i l q) = none v.found refl
     where
-      none : (ns : List ℕ) → v.found ≡ ns → FilesAs (file_set (filing names rows lists mark at) v) 1 names₁ rows₁ lists₂ mark at (filed.Sets 1 (at + 1))
+      none : (ns : List ℕ) → v.found ≡ ns → FilesAs (file_set (filing names rows lists mark at) v) 1 names₁ rows₁ lists₂ mark at (filed_sets 1 (at + 1))
       none [] n = as_sets {e = at + 1} refl
           (set_by (filing names rows lists mark at) v {b = false} {ws = 6144 ∷ []}
           (rw ((answer_names at v (sym e ∙ x.answer)).0, n, le-ltb 8192 (at + 1) (omega arith))) (rw n)
@@ -96,7 +94,7 @@ module _ {names rows lists names₁ rows₁ lists₁ : List ℕ} {mark at : ℕ}
       none (m ∷ ns) n = absurd (let z : ⊥ = omega (arith, (answer_names at v (sym e ∙ x.answer)).1, ap length n) in z)
   words_closed {end} {lists₂} e fits (over i l q) = none v.found refl
     where
-      none : (ns : List ℕ) → v.found ≡ ns → FilesAs (file_set (filing names rows lists mark at) v) 1 names₁ rows₁ lists₂ mark at filed.Full
+      none : (ns : List ℕ) → v.found ≡ ns → FilesAs (file_set (filing names rows lists mark at) v) 1 names₁ rows₁ lists₂ mark at None
       none [] n = rw (set_by (filing names rows lists mark at) v {b = true} {ws = v.found}
           (rw ((answer_names at v (sym e ∙ x.answer)).0, n, lt-ltb 8192 (at + 1) (omega arith))) refl)
           (as_full refl x.name_words x.row_words (q ∙ x.lists_words))
@@ -105,14 +103,14 @@ module _ {names rows lists names₁ rows₁ lists₁ : List ℕ} {mark at : ℕ}
 -- ---- one after another
 
 -- an answer after so many sets
-unfoldable pub after : ℕ → Filed → Filed
-after n (filed.Sets m e) = filed.Sets (n + m) e
-after n filed.Full = filed.Full
+unfoldable pub after : ℕ → Option Filed → Option Filed
+after n (Some f) = filed_sets (n + f.sets) f.end
+after n None = None
 
 -- sets after sets
-pub words_then : {names₁ rows₁ lists₁ names₂ rows₂ lists₂ : List ℕ} {mark at n m i j : ℕ} {f : FilingState} {r : Filed} (step : FilingState → FilingState) → at ≤ m
+pub words_then : {names₁ rows₁ lists₁ names₂ rows₂ lists₂ : List ℕ} {mark at n m i j : ℕ} {f : FilingState} {r : Option Filed} (step : FilingState → FilingState) → at ≤ m
     → m ≤ filed_end r
-    → FilesAs f i names₁ rows₁ lists₁ mark at (filed.Sets n m)
+    → FilesAs f i names₁ rows₁ lists₁ mark at (filed_sets n m)
     → FilesAs (step (filing names₁ rows₁ lists₁ (mark + (m - at)) m)) j names₂ rows₂ lists₂ (mark + (m - at)) m r
     → FilesAs (step f) (i + j) names₂ rows₂ lists₂ mark at (after n r)
 unfolding after filed_end
@@ -121,23 +119,25 @@ words_then {names₂} {rows₂} {lists₂} step l k (as_sets a p) (as_sets {e = 
 words_then step l k (as_sets a p) (as_full x y z w) = rw p (as_full x y z w)
 
 -- the same filing, said in another way
-pub words_as : {names₁ rows₁ lists₁ : List ℕ} {mark at i j : ℕ} {f g : FilingState} {r : Filed} → f ≡ g → i ≡ j → FilesAs f i names₁ rows₁ lists₁ mark at r
+pub words_as : {names₁ rows₁ lists₁ : List ℕ} {mark at i j : ℕ} {f g : FilingState} {r : Option Filed} → f ≡ g → i ≡ j → FilesAs f i names₁ rows₁ lists₁ mark at r
     → FilesAs g j names₁ rows₁ lists₁ mark at r
 words_as p q x = rw (← p, ← q) x
 
 -- where there is no room for sets there is none for more
-pub words_more : {names₁ rows₁ lists₁ : List ℕ} {mark at i j : ℕ} {f g : FilingState} → (f.full ≡ true → g ≡ f) → FilesAs f i names₁ rows₁ lists₁ mark at filed.Full
-    → FilesAs g j names₁ rows₁ lists₁ mark at filed.Full
+pub words_more : {names₁ rows₁ lists₁ : List ℕ} {mark at i j : ℕ} {f g : FilingState} → (f.full ≡ true → g ≡ f) → FilesAs f i names₁ rows₁ lists₁ mark at None
+    → FilesAs g j names₁ rows₁ lists₁ mark at None
 words_more q (as_full x y z w) = rw (q x) (as_full x y z w)
 
 -- how many sets an answer has
-pub words_count : {names₁ rows₁ lists₁ : List ℕ} {mark at i n e : ℕ} {f : FilingState} {r : Filed} → r ≡ filed.Sets n e → FilesAs f i names₁ rows₁ lists₁ mark at r
+pub words_count : {names₁ rows₁ lists₁ : List ℕ} {mark at i n e : ℕ} {f : FilingState} {r : Option Filed} → r ≡ filed_sets n e → FilesAs f i names₁ rows₁ lists₁ mark at r
     → n ≡ i
-words_count q (as_sets a p) = let z : _ ≡ _ = q in cc
+words_count {n = n} {e = e} q (as_sets {n = m} {e = k} a p) =
+    let same : ◌≡◌ {A = Filed} (record { sets = m; end = k }) (record { sets = n; end = e }) = cc in
+    sym (ap (λ f. f.sets) same) ∙ a
 words_count q (as_full x y z w) = let z : ◌≡◌ {A = ℕ} 0 1 = cc in let n : ⊥ = omega arith in absurd n
 
 -- no set
-pub words_none : {names rows lists : List ℕ} {mark at : ℕ} → FilesAs (filing names rows lists mark at) 0 names rows lists mark at (filed.Sets 0 at)
+pub words_none : {names rows lists : List ℕ} {mark at : ℕ} → FilesAs (filing names rows lists mark at) 0 names rows lists mark at (filed_sets 0 at)
 words_none {names} {rows} {lists} {mark} {at} = as_sets {e = at} refl (ap (λ k. filing names rows lists k at) (omega arith))
 
 -- what stays as it is without room stays so over a list
@@ -257,7 +257,7 @@ walked_one {refs} {rows} {used} {many} {t} {groups} {u} {e} names a at all one i
     )
 
 -- gathering without room leaves the names
-pub names_kept : {names rows lists names' rows' lists' : List ℕ} {mark at : ℕ} {r : Walked} → Gathered names rows lists names' rows' lists' mark at at r
+pub names_kept : {names rows lists names' rows' lists' : List ℕ} {mark at : ℕ} {r : Option ℕ} → Gathered names rows lists names' rows' lists' mark at at r
     → names' ≡ names
 names_kept {names} {names' = names'} {lists' = lists'} {at = at} {r = r} g =
     ext_get_or 0 names' names g.names_same.same_length (λ i l. ⊎_elim
@@ -274,7 +274,7 @@ names_kept {names} {names' = names'} {lists' = lists'} {at = at} {r = r} g =
     (below i 8192))
 
 -- and it leaves the slice
-pub lists_kept : {names rows lists names' rows' lists' : List ℕ} {mark at : ℕ} {r : Walked} → Gathered names rows lists names' rows' lists' mark at at r → lists' ≡ lists
+pub lists_kept : {names rows lists names' rows' lists' : List ℕ} {mark at : ℕ} {r : Option ℕ} → Gathered names rows lists names' rows' lists' mark at at r → lists' ≡ lists
 lists_kept {lists = lists} {lists' = lists'} g =
     let hi = g.fits in
     ext_get_or 0 lists' lists g.lists_same.same_length (λ i l. g.lists_same.same_words i (λ a b. omega arith))

@@ -1,6 +1,6 @@
 -- Trigger entries in a lent slice: an entry is the number of a name, or `no_name` for a disjunct that has none; `last_flag`
 -- is added to the last entry of its disjunct. The names of a disjunct stand in the order in which its walk finds them.
-use Rattle.std.specs.Prelude.{ℕ, ◌+◌, ◌-◌, ◌%◌, ◌≤◌, ◌<◌, ◌≡◌, cond, ◌⊎◌, length, get_or, set, ltb}
+use Rattle.std.specs.Prelude.{ℕ, ◌+◌, ◌-◌, ◌%◌, ◌≤◌, ◌<◌, ◌≡◌, cond, ◌⊎◌, length, get_or, set, ltb, Option, None, Some}
 use mathlib.Core.List.{List, [], ◌∷◌, ◌++◌, map, Memᴰ}
 use Rattle.model.specs.Lists.{part}
 use Rattle.model.specs.Names.{Name, from_list}
@@ -10,7 +10,6 @@ use Rattle.model.specs.Outcome.{working_words}
 use Rattle.words.specs.Slices.{word_limit, SameBut}
 use Rattle.gather.specs.Sets.{name_mark_column, row_mark_column, Fresh}
 use Rattle.triggers.specs.declared.Filed.{Filed}
-use Rattle.triggers.specs.declared.Filed.TheVariants as filed
 
 -- where the entries of the facts start in the slice, and where they end
 abbrev pub entries_base : ℕ
@@ -53,36 +52,42 @@ pub record Entries (named : ℕ) (ws : List ℕ) : Type 0 where
   pub flagged : (w : ℕ) → Memᴰ w ws → w < last_flag + last_flag
   pub closed : (i : ℕ) → i + 1 ≡ length ws → last_flag ≤ get_or ws i 0
 
+-- so many disjuncts, whose entries end there
+abbrev pub filed_sets : ℕ → ℕ → Option Filed
+filed_sets n e =
+    let f : Filed = record { sets = n; end = e } in
+    Some f
+
 -- where the entries end: at 8,192 where there is no room for all
-unfoldable pub filed_end : Filed → ℕ
-filed_end (filed.Sets n e) = e
-filed_end filed.Full = entries_column_end
+unfoldable pub filed_end : Option Filed → ℕ
+filed_end (Some f) = f.end
+filed_end None = entries_column_end
 
 -- what filing disjuncts from `at` on comes to: their entries in order, their number and where they end, or that there are
 -- more than fit
-pub data Files (name : ℕ → Name) (named : ℕ) (sets : List (List Name)) (at : ℕ) (lists : List ℕ) : Filed → Type 0 where
+pub data Files (name : ℕ → Name) (named : ℕ) (sets : List (List Name)) (at : ℕ) (lists : List ℕ) : Option Filed → Type 0 where
   all_sets : {n e : ℕ}
       → disjuncts_of name (part lists at e) ≡ sets → n ≡ length sets → e ≡ at + entries sets → e ≤ entries_column_end
       → Entries named (part lists at e)
-      → Files name named sets at lists (filed.Sets n e)
-  no_room : entries_column_end < at + entries sets → Files name named sets at lists filed.Full
+      → Files name named sets at lists (filed_sets n e)
+  no_room : entries_column_end < at + entries sets → Files name named sets at lists None
 
 -- the slices after filing: in the tables only marks change, all below the next one; in `lists` only the entries, one or more
 -- for each set
-pub record EntriesFilled (names rows lists names' rows' lists' : List ℕ) (mark at : ℕ) (r : Filed) : Type 0 where
+pub record EntriesFilled (names rows lists names' rows' lists' : List ℕ) (mark at : ℕ) (r : Option Filed) : Type 0 where
   pub names_same : SameBut name_mark_column most_names names names'
   pub rows_same : SameBut row_mark_column most_terms rows rows'
   pub lists_same : SameBut at (filed_end r - at) lists lists'
   pub low : at ≤ filed_end r
   pub high : filed_end r ≤ entries_column_end
-  pub few : (n e : ℕ) → r ≡ filed.Sets n e → n + at ≤ e
-  pub fresh : (n e : ℕ) → r ≡ filed.Sets n e → Fresh names' rows' (mark + (e - at))
+  pub few : (n e : ℕ) → r ≡ filed_sets n e → n + at ≤ e
+  pub fresh : (n e : ℕ) → r ≡ filed_sets n e → Fresh names' rows' (mark + (e - at))
 
 -- what ending a disjunct comes to
-pub data Closes (lists lists' : List ℕ) (at end : ℕ) : Filed → Type 0 where
-  last : at < end → lists' ≡ set lists (end - 1) (get_or lists (end - 1) 0 + last_flag) → Closes lists lists' at end (filed.Sets 1 end)
-  empty : at ≡ end → at < entries_column_end → lists' ≡ set lists at (no_name + last_flag) → Closes lists lists' at end (filed.Sets 1 (at + 1))
-  over : at ≡ end → entries_column_end ≤ at → lists' ≡ lists → Closes lists lists' at end filed.Full
+pub data Closes (lists lists' : List ℕ) (at end : ℕ) : Option Filed → Type 0 where
+  last : at < end → lists' ≡ set lists (end - 1) (get_or lists (end - 1) 0 + last_flag) → Closes lists lists' at end (filed_sets 1 end)
+  empty : at ≡ end → at < entries_column_end → lists' ≡ set lists at (no_name + last_flag) → Closes lists lists' at end (filed_sets 1 (at + 1))
+  over : at ≡ end → entries_column_end ≤ at → lists' ≡ lists → Closes lists lists' at end None
 
 -- what filing from `at` on asks: marks below the next one, and a mark for each entry that is left
 pub record Opened (names rows lists : List ℕ) (mark at : ℕ) : Type 0 where

@@ -1,12 +1,11 @@
 -- Sets of names filed as trigger entries, one after the other: every word of the slices, and where filing stops.
-use Rattle.std.specs.Prelude.{ℕ, ◌+◌, ◌-◌, ◌≡◌, Bool, true, false, cond, not, ◌||◌, List, [], ◌∷◌, length, eqb, ltb}
+use Rattle.std.specs.Prelude.{ℕ, ◌+◌, ◌-◌, ◌≡◌, Bool, true, false, cond, not, ◌||◌, List, [], ◌∷◌, length, eqb, ltb, Option, None}
 use Rattle.model.specs.Lists.{concat, fold_left, part}
 use Rattle.terms.specs.Rows.{row_start, row_end, groups_of_words, bare_of, groups_at}
 use Rattle.gather.specs.Sets.{name_mark_column, row_mark_column}
 use Rattle.gather.specs.Visits.{Visit, visit_list, marked_at, put}
 use Rattle.triggers.specs.declared.Filed.{Filed}
-use Rattle.triggers.specs.declared.Filed.TheVariants as filed
-use Rattle.triggers.specs.Entries.{entries_column_end, no_name, last_flag}
+use Rattle.triggers.specs.Entries.{filed_sets, entries_column_end, no_name, last_flag}
 
 -- how far filing is: the slices, the mark of the next set, the place of the next entry, and whether a set had no room; mark
 -- and place say nothing then
@@ -82,6 +81,6 @@ pub record AsksAs (v : Visit) (names rows lists names' rows' lists' : List ℕ) 
   pub lists_words : lists' ≡ lists
 
 -- the answer and every word of the slices after filing so many sets from `at` on, under marks from `mark` on
-pub data FilesAs (f : FilingState) (count : ℕ) (names' rows' lists' : List ℕ) (mark at : ℕ) : Filed → Type 0 where
-  as_sets : {n e : ℕ} → n ≡ count → f ≡ filing names' rows' lists' (mark + (e - at)) e → FilesAs f count names' rows' lists' mark at (filed.Sets n e)
-  as_full : f.full ≡ true → names' ≡ f.names → rows' ≡ f.rows → lists' ≡ f.lists → FilesAs f count names' rows' lists' mark at filed.Full
+pub data FilesAs (f : FilingState) (count : ℕ) (names' rows' lists' : List ℕ) (mark at : ℕ) : Option Filed → Type 0 where
+  as_sets : {n e : ℕ} → n ≡ count → f ≡ filing names' rows' lists' (mark + (e - at)) e → FilesAs f count names' rows' lists' mark at (filed_sets n e)
+  as_full : f.full ≡ true → names' ≡ f.names → rows' ≡ f.rows → lists' ≡ f.lists → FilesAs f count names' rows' lists' mark at None

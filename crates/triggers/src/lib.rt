@@ -12,8 +12,6 @@ ghost use Rattle.gather.specs.Sets.{name_mark_column, row_mark_column, Named, Fr
 ghost use Rattle.triggers.specs.Entries.{entries_column_end, Opened, Files, EntriesFilled, Closes};
 ghost use Rattle.triggers.specs.Filings.{filing, file_list, file_groups, file_parts, ask_empty, AsksAs, FilesAs};
 
-use gather::Walked;
-
 // Where the entries of the facts start in the slice, and where they end.
 pub const ENTRIES: usize = 6144;
 
@@ -25,15 +23,19 @@ pub const NO_NAME: usize = 2048;
 // What is added to the last entry of its disjunct.
 pub const LAST: usize = 4096;
 
-// What filing disjuncts comes to: how many there are and where their entries end, or that there is no room for them.
+// The disjuncts that were filed: how many there are, and where their entries end. Every function that files answers none where
+// there is no room for them.
 #[derive(Clone, Copy)]
-pub enum Filed {
-    Sets(usize, usize),
-    Full,
+pub struct Filed {
+    pub sets: usize,
+    pub end: usize,
 }
 
+// The slices that are written stay parameters here: as fields of one struct each that a function leaves alone wants a clause of
+// its own.
+
 // Ends the disjunct whose names stand from `at` up to `end`: its last entry is marked, an empty disjunct takes one.
-fn close(lists: &mut [u32], at: usize, end: usize) -> Filed
+fn close(lists: &mut [u32], at: usize, end: usize) -> Option<Filed>
     requires { (at ≤ end) × (end ≤ entries_column_end) × (entries_column_end ≤ length lists.old)
         × (at < end → get_or lists.old (end - 1) 0 < most_names) }
     ensures { Closes lists.old lists.new at end result }
@@ -41,13 +43,16 @@ fn close(lists: &mut [u32], at: usize, end: usize) -> Filed
     if at < end {
         let last = words::at(lists, end - 1);
         lists[end - 1] = (last + LAST) as u32;
-        return Filed::Sets(1, end);
+        return Some(Filed { sets: 1, end });
     }
     if ENTRIES_END <= at {
-        return Filed::Full;
+        return None;
     }
     lists[at] = (NO_NAME + LAST) as u32;
-    Filed::Sets(1, at + 1)
+    Some(Filed {
+        sets: 1,
+        end: at + 1,
+    })
 }
 
 // Files the free names of the terms that the references from `a` up to `e` name, as one disjunct.
@@ -63,7 +68,7 @@ fn file_list(
     e: usize,
     mark: usize,
     at: usize,
-) -> Filed
+) -> Option<Filed>
     requires { Rows refs.now rows.old used many named × Opened names.old rows.old lists.old mark at × (a ≤ e)
         × (e ≤ used) × ((i : ℕ) → a ≤ i → i < e → term_of (get_or refs.now i 0) < many) }
     ensures sets { (exclude : List Name) (name : ℕ → Name) → Named exclude name names.old named
@@ -76,7 +81,7 @@ fn file_list(
         (terms_of_words (part refs.now a e))) 1 names.new rows.new lists.new mark at
         result }
 {
-    let Walked::Names(end) = gather::gather_list(
+    let end = gather::gather_list(
         names,
         refs,
         rows,
@@ -89,13 +94,12 @@ fn file_list(
         mark as u32,
         at,
         ENTRIES_END,
-    ) else {
-        return Filed::Full;
-    };
+    )?;
     close(lists, at, end)
 }
 
-// Files the free names of a term as one disjunct.
+// Files the free names of a term as one disjunct. Apart from `file_list`, which walks a list: a closure for the walk would hold
+// three slices that are written.
 pub fn file_term(
     names: &mut [u32],
     refs: &[u32],
@@ -107,7 +111,7 @@ pub fn file_term(
     t: usize,
     mark: usize,
     at: usize,
-) -> Filed
+) -> Option<Filed>
     requires { Rows refs.now rows.old used many named × Opened names.old rows.old lists.old mark at × (t < many) }
     ensures sets { (exclude : List Name) (name : ℕ → Name) → Named exclude name names.old named
         → Files name named (free_top_level_names exclude (terms_of name refs.now rows.old used many) t
@@ -118,7 +122,7 @@ pub fn file_term(
         (filing names.old rows.old lists.old mark at) (t ∷ [])) 1 names.new
         rows.new lists.new mark at result }
 {
-    let Walked::Names(end) = gather::gather_term(
+    let end = gather::gather_term(
         names,
         refs,
         rows,
@@ -130,9 +134,7 @@ pub fn file_term(
         mark as u32,
         at,
         ENTRIES_END,
-    ) else {
-        return Filed::Full;
-    };
+    )?;
     close(lists, at, end)
 }
 
@@ -149,7 +151,7 @@ pub fn file_terms(
     u: usize,
     mark: usize,
     at: usize,
-) -> Filed
+) -> Option<Filed>
     requires { Rows refs.now rows.old used many named × Opened names.old rows.old lists.old mark at × (t < many)
         × (u < many) }
     ensures sets { (exclude : List Name) (name : ℕ → Name) → Named exclude name names.old named
@@ -162,11 +164,8 @@ pub fn file_terms(
         (file_list refs.now used many (filing names.old rows.old lists.old mark at)
         (t ∷ [])) (u ∷ [])) 2 names.new rows.new lists.new mark at result }
 {
-    let Filed::Sets(_, middle) = file_term(names, refs, rows, lists, named, used, many, t, mark, at)
-    else {
-        return Filed::Full;
-    };
-    let Filed::Sets(_, end) = file_term(
+    let first = file_term(names, refs, rows, lists, named, used, many, t, mark, at)?;
+    let second = file_term(
         names,
         refs,
         rows,
@@ -175,12 +174,13 @@ pub fn file_terms(
         used,
         many,
         u,
-        mark + (middle - at),
-        middle,
-    ) else {
-        return Filed::Full;
-    };
-    Filed::Sets(2, end)
+        mark + (first.end - at),
+        first.end,
+    )?;
+    Some(Filed {
+        sets: 2,
+        end: second.end,
+    })
 }
 
 // The pattern groups of the `all` under a term's labels: how many there are, and where their references start and end.
@@ -218,7 +218,7 @@ pub fn triggers_of_term(
     t: usize,
     mark: usize,
     at: usize,
-) -> Filed
+) -> Option<Filed>
     requires { Rows refs.now rows.old used many named × Opened names.old rows.old lists.old mark at × (t < many) }
     ensures sets { (exclude : List Name) (name : ℕ → Name) → Named exclude name names.old named
         → Files name named (triggers_of_term exclude (terms_of name refs.now rows.old used many) t) at
@@ -232,15 +232,14 @@ pub fn triggers_of_term(
     let p = pattern_groups(rows, used, many, t);
     let groups = p.count;
     if groups == 0 {
-        return Filed::Sets(0, at);
+        return Some(Filed { sets: 0, end: at });
     }
     let mut a = p.start;
     let e = p.end;
     let mut end = at;
-    let mut g = 0;
-    while g < groups {
+    for g in 0..groups {
         let b = terms::group_end(refs, a, e, g);
-        let Filed::Sets(_, next) = file_list(
+        let filed = file_list(
             names,
             refs,
             rows,
@@ -252,14 +251,11 @@ pub fn triggers_of_term(
             b,
             mark + (end - at),
             end,
-        ) else {
-            return Filed::Full;
-        };
-        end = next;
+        )?;
+        end = filed.end;
         a = b;
-        g += 1;
     }
-    Filed::Sets(groups, end)
+    Some(Filed { sets: groups, end })
 }
 
 // Files the triggers of each term that the references from `a` up to `e` name, in order. A term without groups is passed over.
@@ -275,7 +271,7 @@ pub fn triggers_of_list(
     e: usize,
     mark: usize,
     at: usize,
-) -> Filed
+) -> Option<Filed>
     requires { Rows refs.now rows.old used many named × Opened names.old rows.old lists.old mark at × (a ≤ e)
         × (e ≤ used) × ((i : ℕ) → a ≤ i → i < e → term_of (get_or refs.now i 0) < many) }
     ensures sets { (exclude : List Name) (name : ℕ → Name) → Named exclude name names.old named
@@ -291,14 +287,12 @@ pub fn triggers_of_list(
 {
     let mut end = at;
     let mut count = 0;
-    let mut i = a;
-    while i < e {
+    for i in a..e {
         let t = terms::reference(refs, i);
-        i += 1;
         if terms::group_count(rows, t) == 0 {
             continue;
         }
-        let Filed::Sets(more, next) = triggers_of_term(
+        let filed = triggers_of_term(
             names,
             refs,
             rows,
@@ -309,13 +303,11 @@ pub fn triggers_of_list(
             t,
             mark + (end - at),
             end,
-        ) else {
-            return Filed::Full;
-        };
-        count += more;
-        end = next;
+        )?;
+        count += filed.sets;
+        end = filed.end;
     }
-    Filed::Sets(count, end)
+    Some(Filed { sets: count, end })
 }
 
 // Whether a term has no trigger, or one empty set. No entry is filed; at most one mark is used.
@@ -348,7 +340,7 @@ pub fn is_empty(
     if p.count != 1 {
         return false;
     }
-    if let Walked::Names(_) = gather::gather_list(
+    gather::gather_list(
         names,
         refs,
         rows,
@@ -361,8 +353,6 @@ pub fn is_empty(
         mark as u32,
         at,
         at,
-    ) {
-        return true;
-    }
-    false
+    )
+    .is_some()
 }

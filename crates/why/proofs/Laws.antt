@@ -12,7 +12,6 @@ use Rattle.rows.proofs.Leaving.{rows_listed, slices_left}
 use Rattle.explain.specs.Call.{reasons_in_numbers, rows_told, FoundReasons}
 use Rattle.explain.specs.declared.Reasons.{Reasons}
 use Rattle.explain.proofs.Laws.{told_count}
-use Rattle.why.specs.Call.{Exact}
 use Rattle.why.specs.Demands.{KeptPromise}
 use Rattle.why.proofs.Demands.{promise}
 
@@ -27,28 +26,7 @@ table_told (refusal_at r place) table = refl
 table_told no_position table = refl
 table_told (told given met) table = refl
 
--- what the call leaves
-exact_call : {file : List ℕ} {position : ℕ} {lent held : Working} {table table' : List Row} {r : Reasons} {run : List ℕ}
-    → FoundReasons file position lent (length table) r held → table' ≡ rows_held r.rows held.run ++ drop r.rows table
-    → Zeroed 0 (2 * r.rows) held.run run
-    → Exact (record {
-      file = file;
-      position = position;
-      lent = lent;
-      table = table;
-      answer = r;
-      left = six held.names held.refs held.rows held.recs held.lists run;
-      table' = table';
-    })
-exact_call {table} found written zeroed =
-    let number = ap (λ (a : Reasons). a.rows) found.answered ∙ rows_number _ in
-    record {
-      answered = found.answered;
-      table = rows_listed number found.left table written ∙ table_told _ table;
-      slices = slices_left number found.left zeroed;
-    }
-
--- and so what it promises
+-- what the call promises
 pub called : {file : List ℕ} {position : ℕ} {lent held : Working} {table table' : List Row} {r : Reasons} {run : List ℕ}
     → FoundReasons file position lent (length table) r held → table' ≡ rows_held r.rows held.run ++ drop r.rows table
     → Zeroed 0 (2 * r.rows) held.run run
@@ -61,4 +39,10 @@ pub called : {file : List ℕ} {position : ℕ} {lent held : Working} {table tab
       left = six held.names held.refs held.rows held.recs held.lists run;
       table' = table';
     })
-called found written zeroed = promise _ (exact_call found written zeroed)
+called {table = table} found written zeroed =
+    let number = ap (λ (a : Reasons). a.rows) found.answered ∙ rows_number _ in
+    promise _ (record {
+      answered = found.answered;
+      table = rows_listed number found.left table written ∙ table_told _ table;
+      slices = slices_left number found.left zeroed;
+    })

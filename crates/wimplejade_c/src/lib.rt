@@ -1,4 +1,5 @@
 // The exported calls for programs in C and Rust: each is the call of its name in `wimplejade`, with its clauses.
+// They stand here once more because a crate is a library or a static library, and a clause is of its own function.
 #![tactic(auto)]
 
 ghost use Rattle.model.specs.Working.{six};
@@ -67,8 +68,8 @@ pub extern "C" fn wimplejade_sweep(
     )
 }
 
-// Fills the table from its start with a row for each reached fact at a position of a file and each of its listed names met by its
-// round, and counts the names met, or refuses.
+// Fills the table from its start with a row for each reached fact at a position of a file and each of its listed names met by
+// its round, and counts the names met, or refuses.
 #[unsafe(no_mangle)]
 pub extern "C" fn wimplejade_why(
     file: &[u8],
@@ -98,8 +99,8 @@ pub extern "C" fn wimplejade_why(
     )
 }
 
-// Lists in the table, from its start, each name of the body of a definition whose def or fun stands on the same or a later line, or
-// that has neither, or refuses.
+// Lists in the table, from its start, each name of the body of a definition whose def or fun stands on the same or a later
+// line, or that has neither, or refuses.
 #[unsafe(no_mangle)]
 pub extern "C" fn wimplejade_order(
     file: &[u8],

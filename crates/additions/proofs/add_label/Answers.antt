@@ -8,8 +8,5 @@ add_row-requires c =
     let low = under_low c.requires c.reference.ensures c.bare-under.ensures in
     (c.requires.table.row_room, omega arith, omega arith, omega arith, omega arith, omega arith)
 
-pub shape_of-rows : goal.shape_of-rows
-shape_of-rows c = c.rows-1.given
-
 pub returns : goal.returns
 returns c = adds_label c.requires c.reference.ensures c.bare-under.ensures (c.add_row.ensures.answer, c.add_row.ensures.rows)

@@ -15,9 +15,6 @@ bounds-rows-many-2 c = simp length-set (omega arith)
 pub bounds-rows-many-3 : goal.bounds-rows-many-3
 bounds-rows-many-3 c = simp length-set (omega arith)
 
-pub shape_of-rows : goal.shape_of-rows
-shape_of-rows c = simp length-set
-
 pub returns : goal.returns
 unfolding row_word with_row
 returns c = let (a, b) = added_in c.args.rows.now c.args.many _ c.args.start c.args.extra c.if-many-ge-MOST_TERMS.false in record { answer = sym a; rows = sym b }

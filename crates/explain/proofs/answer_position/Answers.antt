@@ -5,29 +5,18 @@ use Rattle.front.proofs.Slices.{rest_long}
 use Rattle.front.proofs.Laws.{rest_work}
 use Rattle.explain.proofs.Laws.{position_none, position_told}
 use Rattle.explain.proofs.answer_position.Goals as goal
+use Rattle.explain.proofs.answer_position.Goals.{then-position-eq0-via-then-position-eq0, then-position-eq0-via-else-position-eq0+then-k-position}
 
 pub close_file-requires : goal.close_file-requires
 close_file-requires c = c.requires.long
 
-pub refused-requires : goal.refused-requires
-refused-requires c = tt
-
 pub returns-then-position-eq0 : goal.returns-then-position-eq0
 returns-then-position-eq0 c =
-    position_none (inl c.if-position-eq0.true) c.close_file.ensures c.refused.ensures
-
-pub close_file-requires-then-k-position : goal.close_file-requires-then-k-position
-close_file-requires-then-k-position c = c.requires.long
-
-pub refused-requires-then-k-position : goal.refused-requires-then-k-position
-refused-requires-then-k-position c = tt
-
-pub returns-then-k-position : goal.returns-then-k-position
-returns-then-k-position c =
-    position_none (inr c.if-k-position.true) c.close_file-then-k-position.ensures c.refused-then-k-position.ensures
-
-pub overflow_sub-position : goal.overflow_sub-position
-overflow_sub-position c = omega (arith, c.if-position-eq0.false)
+    elim c.then-position-eq0.branch [
+      | then-position-eq0-via-then-position-eq0 w ↦ position_none (inl w.if-position-eq0.true) c.close_file.ensures c.refused.ensures
+      | then-position-eq0-via-else-position-eq0+then-k-position w ↦
+          position_none (inr w.if-k-position.true) c.close_file.ensures c.refused.ensures
+    ]
 
 pub ask_at-a-requires : goal.ask_at-a-requires
 ask_at-a-requires c =

@@ -4,12 +4,6 @@ use mathlib.Core.Path.{◌∙◌}
 use Rattle.explain.proofs.Laws.{moves_rows}
 use Rattle.explain.proofs.move_rows.Goals as goal
 
-pub clear-requires : goal.clear-requires
-clear-requires c = omega (arith, c.requires.0.on_run)
-
-pub overflow_mul-rows : goal.overflow_mul-rows
-overflow_mul-rows c = omega (arith, c.requires.1)
-
 pub copy-requires : goal.copy-requires
 copy-requires c =
     (omega (arith, c.requires.0.on_refs, c.requires.1), omega (arith, c.requires.0.on_run, c.requires.1, c.clear.ensures.same.same_length))
@@ -17,21 +11,6 @@ copy-requires c =
 pub close_tables-requires : goal.close_tables-requires
 close_tables-requires c =
     (c.requires.0.on_names, c.requires.0.on_refs, c.requires.0.on_rows, c.requires.0.on_recs, c.requires.0.on_lists)
-
-pub shape_of-w0 : goal.shape_of-w0
-shape_of-w0 c = c.close_tables.ensures.on_names.same.same_length
-
-pub shape_of-w1 : goal.shape_of-w1
-shape_of-w1 c = c.close_tables.ensures.on_refs.same.same_length
-
-pub shape_of-w2 : goal.shape_of-w2
-shape_of-w2 c = c.close_tables.ensures.on_rows.same.same_length
-
-pub shape_of-w3 : goal.shape_of-w3
-shape_of-w3 c = c.close_tables.ensures.on_recs.same.same_length
-
-pub shape_of-w4 : goal.shape_of-w4
-shape_of-w4 c = c.close_tables.ensures.on_lists.same.same_length
 
 pub shape_of-w5 : goal.shape_of-w5
 shape_of-w5 c =

@@ -19,9 +19,6 @@ pub count_met-met-requires : goal.count_met-met-requires
 count_met-met-requires c =
     (omega (arith, c.requires.room, c.run_ask.ensures.same.same_length, c.find_suppliers.ensures.same.same_length), c.requires.filled.table.few)
 
-pub shape_of-refs : goal.shape_of-refs
-shape_of-refs c = c.put_rows-rows.ensures.same.same_length
-
 pub shape_of-run : goal.shape_of-run
 shape_of-run c =
     (tells_rows c.requires c.run_ask.ensures c.find_suppliers.ensures c.put_rows-rows.ensures

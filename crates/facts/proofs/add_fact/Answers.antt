@@ -33,22 +33,22 @@ summarize_assumption-requires c =
 pub returns-then-count-ge-MOST_RECORDS : goal.returns-then-count-ge-MOST_RECORDS
 returns-then-count-ge-MOST_RECORDS c =
     let (st, known) = c.requires.0 c.if-k-gt-MOST_NAMES.false in
-    let done = sym c.in-Done.is ∙ c.summarize_assumption.ensures.answer _ st.hiding.excludes in
+    let done = sym c.in-Ok.is ∙ c.summarize_assumption.ensures.answer _ st.hiding.excludes in
     let free = c.if-at-gt0.false in
     record { «record» = fact_crowded st c.args.line known c.at.ensures c.args.flag c.args.group c.args.t free done c.if-count-ge-MOST_RECORDS.true; past = over_past c.summarize_assumption.ensures.slices }
 
 pub put_fact-requires : goal.put_fact-requires
 put_fact-requires c =
     let (st, known) = c.requires.0 c.if-k-gt-MOST_NAMES.false in
-    let done = sym c.in-Done.is ∙ c.summarize_assumption.ensures.answer _ st.hiding.excludes in
-    let filed-lists = c.summarize_assumption.ensures.sets _ st.hiding.excludes _ c.in-Done.is in
+    let done = sym c.in-Ok.is ∙ c.summarize_assumption.ensures.answer _ st.hiding.excludes in
+    let filed-lists = c.summarize_assumption.ensures.sets _ st.hiding.excludes _ c.in-Ok.is in
     fact_puttable st known c.requires.1 done filed-lists c.summarize_assumption.ensures.slices c.if-count-ge-MOST_RECORDS.false c.requires.2 c.requires.3 c.requires.4
 
 pub returns-else-count-ge-MOST_RECORDS : goal.returns-else-count-ge-MOST_RECORDS
 returns-else-count-ge-MOST_RECORDS c =
     let (st, known) = c.requires.0 c.if-k-gt-MOST_NAMES.false in
-    let done = sym c.in-Done.is ∙ c.summarize_assumption.ensures.answer _ st.hiding.excludes in
-    let filed-lists = c.summarize_assumption.ensures.sets _ st.hiding.excludes _ c.in-Done.is in
+    let done = sym c.in-Ok.is ∙ c.summarize_assumption.ensures.answer _ st.hiding.excludes in
+    let filed-lists = c.summarize_assumption.ensures.sets _ st.hiding.excludes _ c.in-Ok.is in
     let slices = c.summarize_assumption.ensures.slices in
     let free = c.if-at-gt0.false in
     let room = c.if-count-ge-MOST_RECORDS.false in
@@ -58,9 +58,9 @@ returns-else-count-ge-MOST_RECORDS c =
       past = fact_past slices (limited_done _ done).2 (omega (arith, st.tables.name_table.few, known)) c.put_fact.ensures;
     }
 
-pub returns-in-Over : goal.returns-in-Over
-returns-in-Over c =
+pub returns-in-Err : goal.returns-in-Err
+returns-in-Err c =
     let (st, known) = c.requires.0 c.if-k-gt-MOST_NAMES.false in
-    let over = sym c.in-Over.is ∙ c.summarize_assumption.ensures.answer _ st.hiding.excludes in
+    let over = sym c.in-Err.is ∙ c.summarize_assumption.ensures.answer _ st.hiding.excludes in
     let free = c.if-at-gt0.false in
     record { «record» = fact_over st c.args.line known c.at.ensures c.args.flag c.args.group c.args.t free c.over_refusal.ensures over; past = over_past c.summarize_assumption.ensures.slices }

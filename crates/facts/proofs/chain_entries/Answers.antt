@@ -8,26 +8,18 @@ use native.Mathlib.Omega.{arith}
 use Rattle.facts.proofs.chain_entries.Goals as goal
 
 pub loop-e-init : goal.loop-e-init
-loop-e-init c = (omega arith, omega arith, chain_start _ c.requires.0)
+loop-e-init c = chain_start _ c.requires.0
 
 pub loop-e-preserved-then-n-ge-NO_NAME : goal.loop-e-preserved-then-n-ge-NO_NAME
 loop-e-preserved-then-n-ge-NO_NAME c =
-    let done = c.loop-e.invariant.2 in (
-      omega arith,
-      omega arith,
-      chain_none done c.loop-e.invariant.0 (omega arith) c.requires.5 _ (ap (λ w. w % last_flag) c.at-n.ensures) c.if-n-ge-NO_NAME.true,
-    )
+    chain_none c.loop-e.invariant (omega arith) (omega arith) c.requires.5 _ (ap (λ w. w % last_flag) c.at-n.ensures) c.if-n-ge-NO_NAME.true
 
-pub bounds-lists-k-in-loop-e : goal.bounds-lists-k-in-loop-e
-bounds-lists-k-in-loop-e c = simp length-set (omega arith)
+pub bounds-lists-e-in-loop-e : goal.bounds-lists-e-in-loop-e
+bounds-lists-e-in-loop-e c = simp length-set (omega arith)
 
 pub loop-e-preserved : goal.loop-e-preserved
 loop-e-preserved c =
-    let done = c.loop-e.invariant.2 in (
-      omega arith,
-      omega arith,
-      chain_one done c.loop-e.invariant.0 (omega arith) c.requires.5 _ (ap (λ w. w % last_flag) c.at-n.ensures) c.requires.4 c.if-n-ge-NO_NAME.false,
-    )
+    chain_one c.loop-e.invariant (omega arith) (omega arith) c.requires.5 _ (ap (λ w. w % last_flag) c.at-n.ensures) c.requires.4 c.if-n-ge-NO_NAME.false
 
 pub returns : goal.returns
-returns c = chain_end c.loop-e.invariant.2 c.loop-e.invariant.1 c.loop-e-test.false
+returns c = chain_end c.loop-e.invariant (omega arith) (omega arith)

@@ -1,10 +1,6 @@
 -- `facts::chain_entries` meets its contract. The loop's invariant: the entries up to `e` are on their chains.
-use Prim.Native.Nat.{◌-◌, ◌≤◌}
 use Rattle.facts.specs.Putting.{Chains}
 use Rattle.facts.proofs.chain_entries.Given as goal
 
 abbrev pub invariant-loop-e : goal.invariant-loop-e
-invariant-loop-e l = (l.from ≤ l.e) × (l.e ≤ l.to) × Chains l.initial.names l.initial.lists l.names l.lists l.from l.e l.fact
-
-abbrev pub decreases-loop-e : goal.decreases-loop-e
-decreases-loop-e l = l.to - l.e
+invariant-loop-e l = Chains l.initial.names l.initial.lists l.names l.lists l.from l.e l.fact

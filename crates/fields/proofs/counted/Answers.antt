@@ -2,8 +2,8 @@
 use Rattle.fields.proofs.Words.{count_free, count_fixed}
 use Rattle.fields.proofs.counted.Goals as goal
 
-pub returns-then-fixed-eq0 : goal.returns-then-fixed-eq0
-returns-then-fixed-eq0 c = λ s p. count_free s _ _ (c.fixed_count-fixed.ensures s p) c.if-fixed-eq0.true
+pub returns-in-Some : goal.returns-in-Some
+returns-in-Some c = λ s p. count_fixed s _ _ (c.fixed_count.ensures s p) c.count_fields.ensures c.in-Some.is
 
-pub returns : goal.returns
-returns c = λ s p. count_fixed s _ _ (c.fixed_count-fixed.ensures s p) c.count_fields.ensures c.if-fixed-eq0.false
+pub returns-in-None : goal.returns-in-None
+returns-in-None c = λ s p. count_free s _ _ (c.fixed_count.ensures s p) c.in-None.is

@@ -1,25 +1,27 @@
 -- `fields::read_op_word` meets its contract.
+use Rattle.model.proofs.ResultLaws.{refused_is}
 use mathlib.Core.Path.{sym, ◌∙◌}
+use native.Mathlib.Omega.{arith}
 use Rattle.text.proofs.Laws.{field_next}
-use Rattle.fields.proofs.Ops.{op_there, op_lacks, field_lacks}
+use Rattle.fields.proofs.Ops.{op_there, op_lacks, field_lacks, lacked}
 use Rattle.fields.proofs.read_op_word.Goals as goal
 
-pub field-requires : goal.field-requires
-field-requires c = c.requires
+pub returns-in_err-part : goal.returns-in_err-part
+returns-in_err-part c =
+    rw (refused_is c.from_residual.ensures.1) (field_lacks c.requires c.field.ensures c.in_err-part.was)
 
 pub op_word-requires : goal.op_word-requires
 op_word-requires c =
-    let next = field_next _ _ c.requires _ _ _ (sym c.field.ensures ∙ c.in-Part.is) in
+    let next = field_next _ _ c.requires _ (sym c.field.ensures ∙ c.in_ok-part.was) in
     (next.ordered, next.inside)
 
-pub returns-in-Is : goal.returns-in-Is
-returns-in-Is c =
-    let next = field_next _ _ c.requires _ _ _ (sym c.field.ensures ∙ c.in-Part.is) in
-    op_there c.requires c.field.ensures c.in-Part.is c.op_word.ensures c.in-Is.is next.onward
+pub returns-in_err-op : goal.returns-in_err-op
+returns-in_err-op c =
+    let (none, form) = lacked _ c.ok_or.ensures.value c.in_err-op.was in
+    rw (refused_is c.from_residual-in_err-op.ensures.1, form)
+    (op_lacks c.requires c.field.ensures c.in_ok-part.was c.op_word.ensures none)
 
-pub returns-in-No : goal.returns-in-No
-returns-in-No c =
-    op_lacks c.requires c.field.ensures c.in-Part.is c.op_word.ensures c.in-No.is
-
-pub returns-in-Refused : goal.returns-in-Refused
-returns-in-Refused c = field_lacks c.requires c.field.ensures c.in-Refused.is
+pub returns : goal.returns
+returns c =
+    let next = field_next _ _ c.requires _ (sym c.field.ensures ∙ c.in_ok-part.was) in
+    op_there c.requires c.field.ensures c.in_ok-part.was c.op_word.ensures (grind arith) next.onward

@@ -14,19 +14,16 @@ returns-then-e-a-gt-LONGEST_WORD c = key_long _ _ _ c.requires.1 c.if-e-a-gt-LON
 
 pub loop-i-init : goal.loop-i-init
 unfolding key_of
-loop-i-init c = (omega arith, c.requires.0, weight_start _, refl, refl)
+loop-i-init c = (omega arith, weight_start _, refl, refl)
 
 pub overflow_mul-key : goal.overflow_mul-key
 overflow_mul-key c =
-    omega (arith, weight_room _ _ _ c.loop-i-test.true c.if-e-a-gt-LONGEST_WORD.false, c.loop-i.invariant.2)
-
-pub overflow_cast-key : goal.overflow_cast-key
-overflow_cast-key c = omega (arith, c.type_inv.file c.loop-i.i)
+    omega (arith, weight_room _ _ _ c.loop-i-test.true c.if-e-a-gt-LONGEST_WORD.false, c.loop-i.invariant.1)
 
 pub overflow_add-key : goal.overflow_add-key
 overflow_add-key c =
     let room = weight_room _ _ _ c.loop-i-test.true c.if-e-a-gt-LONGEST_WORD.false in
-    omega (arith, room, c.loop-i.invariant.2, c.type_inv.file c.loop-i.i)
+    omega (arith, room, c.loop-i.invariant.1, c.type_inv.file c.loop-i.i)
 
 pub loop-i-preserved : goal.loop-i-preserved
 unfolding is_byte
@@ -35,14 +32,13 @@ loop-i-preserved c =
     let i = c.loop-i.i in
     let byte : get_or c.args.file.now i 0 < 256 = omega (arith, c.type_inv.file i) in (
       omega arith,
-      omega arith,
-      weight_on _ _ _ _ inv.0 inv.2 byte,
-      inv.3 ∙ key_on _ _ _ _ c.loop-i-test.true c.requires.1,
-      inv.4 ∙ all_on _ _ _ c.loop-i-test.true c.requires.1 is_byte (lt-ltb _ 256 byte),
+      weight_on _ _ _ _ inv.0 inv.1 byte,
+      inv.2 ∙ key_on _ _ _ _ c.loop-i-test.true c.requires.1,
+      inv.3 ∙ all_on _ _ _ c.loop-i-test.true c.requires.1 is_byte (lt-ltb _ 256 byte),
     )
 
 pub returns : goal.returns
 returns c =
     let inv = c.loop-i.invariant in
     let done = c.loop-i-test.false in
-    key_short _ (inv.4 ∙ all_end _ _ _ done is_byte) (sym (inv.3 ∙ key_end _ _ _ _ done))
+    key_short _ (inv.3 ∙ all_end _ _ _ done is_byte) (sym (inv.2 ∙ key_end _ _ _ _ done))

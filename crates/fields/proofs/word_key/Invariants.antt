@@ -9,10 +9,6 @@ use Rattle.fields.proofs.word_key.Given as goal
 abbrev pub invariant-loop-i : goal.invariant-loop-i
 invariant-loop-i l =
     (l.a ≤ l.i)
-    × (l.i ≤ l.e)
     × (l.key < weight (l.i - l.a))
     × (key_of (part l.file l.a l.e) ≡ key_from l.key (part l.file l.i l.e))
     × (all is_byte (part l.file l.a l.e) ≡ all is_byte (part l.file l.i l.e))
-
-abbrev pub decreases-loop-i : goal.decreases-loop-i
-decreases-loop-i l = l.e - l.i

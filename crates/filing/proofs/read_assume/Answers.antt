@@ -1,4 +1,5 @@
 -- `filing::read_assume` meets its contract: by the name, and the fact added.
+use Rattle.model.proofs.ResultLaws.{refused_is}
 use Rattle.fields.proofs.Spelling.{reads_name}
 use Rattle.filing.proofs.Naming.{spelled_standing}
 use Rattle.filing.proofs.Naming.{many_few}
@@ -12,14 +13,14 @@ read_name-requires c =
 
 pub read_fact-requires : goal.read_fact-requires
 read_fact-requires c =
-    let word = reads_name c.read_name.ensures c.in-Name.is in
+    let word = reads_name c.read_name.ensures c.in_ok-i.was in
     (spelled_standing c.args.n c.requires.0 word.spelled c.spelled-known.ensures, many_few c.requires.0 c.spelled-known.ensures, word.onward.placed, c.requires.2)
 
-pub returns-in-Name : goal.returns-in-Name
-returns-in-Name c =
-    let word = reads_name c.read_name.ensures c.in-Name.is in
+pub returns : goal.returns
+returns c =
+    let word = reads_name c.read_name.ensures c.in_ok-i.was in
     assume_line _ c.requires.0 word c.spelled-known.ensures c.read_fact.ensures.past c.read_fact.ensures.«record»
 
-pub returns-in-Refused : goal.returns-in-Refused
-returns-in-Refused c =
-    name_not _ c.requires.0 c.read_name.ensures c.in-Refused.is (assume_not _ _ _)
+pub returns-in_err-i : goal.returns-in_err-i
+returns-in_err-i c =
+    rw (refused_is c.from_residual.ensures.1) (name_not _ c.requires.0 c.read_name.ensures c.in_err-i.was (assume_not _ _ _))

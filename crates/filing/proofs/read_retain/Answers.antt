@@ -1,4 +1,5 @@
 -- `filing::read_retain` meets its contract: by the names, and the record added.
+use Rattle.model.proofs.ResultLaws.{refused_is}
 use Rattle.filing.proofs.Retaining.{rest_standing, retain_line, retain_not}
 use Rattle.filing.proofs.read_retain.Goals as goal
 
@@ -8,13 +9,13 @@ spell_rest-requires c =
 
 pub add_retain-requires : goal.add_retain-requires
 add_retain-requires c =
-    (rest_standing c.args.n c.requires.0 c.spell_rest.ensures c.in-At.is c.spelled.ensures, c.requires.2)
+    (rest_standing c.args.n c.requires.0 c.spell_rest.ensures c.in_ok-named.was c.spelled.ensures, c.requires.2)
 
-pub returns-in-At : goal.returns-in-At
-returns-in-At c =
-    retain_line _ c.requires.0 c.spell_rest.ensures c.in-At.is c.spelled.ensures
+pub returns : goal.returns
+returns c =
+    retain_line _ c.requires.0 c.spell_rest.ensures c.in_ok-named.was c.spelled.ensures
     c.add_retain.ensures.«record» c.add_retain.ensures.past
 
-pub returns-in-Refused : goal.returns-in-Refused
-returns-in-Refused c =
-    retain_not _ c.requires.0 c.spell_rest.ensures c.in-Refused.is
+pub returns-in_err-named : goal.returns-in_err-named
+returns-in_err-named c =
+    rw (refused_is c.from_residual.ensures.1) (retain_not _ c.requires.0 c.spell_rest.ensures c.in_err-named.was)

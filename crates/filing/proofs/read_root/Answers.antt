@@ -1,4 +1,5 @@
 -- `filing::read_root` meets its contract: by the query, and the rest of the line.
+use Rattle.model.proofs.ResultLaws.{refused_is}
 use Rattle.fields.proofs.Pushing.{number_read, number_not}
 use Rattle.filing.proofs.Saying.{number_placed, number_below, root_then, root_not}
 use Rattle.filing.proofs.Recording.{line_not, line_said}
@@ -11,15 +12,15 @@ number-requires c =
 pub read_goal-requires : goal.read_goal-requires
 read_goal-requires c = (
   c.requires.0,
-  number_placed 255 c.requires.1 c.number.ensures c.in-Number.is,
+  number_placed 255 c.requires.1 c.number.ensures c.in_ok-q.was,
   c.requires.2,
-  number_below 255 c.requires.1 c.number.ensures c.in-Number.is,
+  number_below 255 c.requires.1 c.number.ensures c.in_ok-q.was,
 )
 
-pub returns-in-Number : goal.returns-in-Number
-returns-in-Number c =
-    line_said (root_then _ _ _ (number_read c.requires.1 255 c.number.ensures c.in-Number.is)) c.read_goal.ensures
+pub returns : goal.returns
+returns c =
+    line_said (root_then _ _ _ (number_read c.requires.1 255 c.number.ensures c.in_ok-q.was)) c.read_goal.ensures
 
-pub returns-in-Refused : goal.returns-in-Refused
-returns-in-Refused c =
-    line_not _ _ _ _ _ _ _ _ _ (root_not _ _ _ (number_not c.requires.1 255 c.number.ensures c.in-Refused.is))
+pub returns-in_err-q : goal.returns-in_err-q
+returns-in_err-q c =
+    rw (refused_is c.from_residual.ensures.1) (line_not _ _ _ _ _ _ _ _ _ (root_not _ _ _ (number_not c.requires.1 255 c.number.ensures c.in_err-q.was)))

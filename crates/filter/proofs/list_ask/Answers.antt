@@ -42,9 +42,6 @@ overflow_cast-result-3 c =
     let placed = placed_ask _ c.args.i c.ask_at-a.ensures (omega (arith, c.requires.0.few_asks, c.requires.1)) in
     omega (arith, (stretch_small c.requires.0.filled placed.1 c.run_stretch-made.ensures).1)
 
-pub shape_of-refs : goal.shape_of-refs
-shape_of-refs c = c.copy.ensures.same.same_length
-
 pub shape_of-run : goal.shape_of-run
 shape_of-run c =
     (slice_rest c.run_stretch-made.ensures.same c.prune-kept.ensures.same).same_length

@@ -1,7 +1,5 @@
 -- `filter::list_asks` meets its contract. The loop's invariant: the answer and the lists are those of the positions passed, and
 -- the chain of the last of them stands in the run's slice.
-use Prim.Native.Nat.{◌-◌, ◌≤◌}
-use mathlib.Core.Path.{◌≡◌}
 use Rattle.model.specs.Outcome.{working_words}
 use Rattle.words.specs.Slices.{SameBut}
 use Rattle.filter.specs.Call.{positions_of}
@@ -10,11 +8,9 @@ use Rattle.filter.proofs.Answers.{StandsBefore}
 use Rattle.filter.proofs.list_asks.Given as goal
 
 abbrev pub invariant-loop-i : goal.invariant-loop-i
-invariant-loop-i l =
-    ListsOn (positions_of l.file l.names l.recs l.lists l.k l.i) l.i l.a l.total l.refs
-    × (l.i ≤ l.asks) × (l.asks ≡ l.k.asks)
-    × SameBut 0 working_words l.initial.refs l.refs × SameBut 0 working_words l.initial.run l.run
-    × StandsBefore l.file l.names l.recs l.lists l.k l.i l.run l.before
-
-abbrev pub decreases-loop-i : goal.decreases-loop-i
-decreases-loop-i l = l.asks - l.i
+invariant-loop-i l = record {
+  on : ListsOn (positions_of l.file l.tables.names.now l.tables.recs.now l.tables.lists.now l.tables.k l.i) l.i l.a l.total l.refs;
+  refs : SameBut 0 working_words l.initial.refs l.refs;
+  run : SameBut 0 working_words l.initial.run l.run;
+  stands : StandsBefore l.file l.tables.names.now l.tables.recs.now l.tables.lists.now l.tables.k l.i l.run l.before;
+}

@@ -1,7 +1,6 @@
 -- `front::open_lines` meets its contract.
-use native.Mathlib.Omega.{arith}
 use Rattle.front.proofs.Slices.{rest_long}
-use Rattle.front.proofs.Laws.{place_small, line_refused, lent, rest_read, opening_read, opening_refused}
+use Rattle.front.proofs.Laws.{lent, rest_read, opening_read, opening_refused}
 use Rattle.front.proofs.open_lines.Goals as goal
 
 pub clear-requires : goal.clear-requires
@@ -20,37 +19,33 @@ pub close_file-requires : goal.close_file-requires
 close_file-requires c =
     rest_long c.requires.0 (rest_read c.args.w5.now c.clear.ensures c.clear-2.ensures c.read_file.ensures.past)
 
-pub overflow_cast-result : goal.overflow_cast-result
-overflow_cast-result c =
-    omega (arith, place_small _ c.requires.1 (line_refused c.read_file.ensures.reads c.in-Refused.is))
-
-pub shape_of-w0-in-Read : goal.shape_of-w0-in-Read
-shape_of-w0-in-Read c =
+pub shape_of-w0-in-Ok : goal.shape_of-w0-in-Ok
+shape_of-w0-in-Ok c =
     (rest_read c.args.w5.now c.clear.ensures c.clear-2.ensures c.read_file.ensures.past).on_names.same_length
 
-pub shape_of-w1-in-Read : goal.shape_of-w1-in-Read
-shape_of-w1-in-Read c =
+pub shape_of-w1-in-Ok : goal.shape_of-w1-in-Ok
+shape_of-w1-in-Ok c =
     (rest_read c.args.w5.now c.clear.ensures c.clear-2.ensures c.read_file.ensures.past).on_refs.same_length
 
-pub shape_of-w2-in-Read : goal.shape_of-w2-in-Read
-shape_of-w2-in-Read c =
+pub shape_of-w2-in-Ok : goal.shape_of-w2-in-Ok
+shape_of-w2-in-Ok c =
     (rest_read c.args.w5.now c.clear.ensures c.clear-2.ensures c.read_file.ensures.past).on_rows.same_length
 
-pub shape_of-w3-in-Read : goal.shape_of-w3-in-Read
-shape_of-w3-in-Read c =
+pub shape_of-w3-in-Ok : goal.shape_of-w3-in-Ok
+shape_of-w3-in-Ok c =
     (rest_read c.args.w5.now c.clear.ensures c.clear-2.ensures c.read_file.ensures.past).on_recs.same_length
 
-pub shape_of-w4-in-Read : goal.shape_of-w4-in-Read
-shape_of-w4-in-Read c =
+pub shape_of-w4-in-Ok : goal.shape_of-w4-in-Ok
+shape_of-w4-in-Ok c =
     (rest_read c.args.w5.now c.clear.ensures c.clear-2.ensures c.read_file.ensures.past).on_lists.same_length
 
-pub returns-in-Read : goal.returns-in-Read
-returns-in-Read c =
-    opening_read _ c.requires.0 c.requires.1 c.read_file.ensures.reads c.in-Read.is
+pub returns-in-Ok : goal.returns-in-Ok
+returns-in-Ok c =
+    opening_read _ c.requires.0 c.requires.1 c.read_file.ensures.reads c.in-Ok.is
     (rest_read c.args.w5.now c.clear.ensures c.clear-2.ensures c.read_file.ensures.past)
-    (c.read_file.ensures.terms _ c.in-Read.is)
+    (c.read_file.ensures.terms _ c.in-Ok.is)
 
-pub returns-in-Refused : goal.returns-in-Refused
-returns-in-Refused c =
-    opening_refused _ c.requires.0 c.requires.1 c.read_file.ensures.reads c.in-Refused.is
+pub returns-in-Err : goal.returns-in-Err
+returns-in-Err c =
+    opening_refused _ c.requires.0 c.requires.1 c.read_file.ensures.reads c.in-Err.is
     (rest_read c.args.w5.now c.clear.ensures c.clear-2.ensures c.read_file.ensures.past) c.close_file.ensures

@@ -1,12 +1,8 @@
 -- `macros::find_opened` meets its contract. The loop's invariant: the numbers among the names before the n-th are found.
-use Prim.Native.Nat.{◌-◌, ◌≤◌}
 use mathlib.Core.Path.{◌≡◌}
 use lib.ListN.{length}
 use Rattle.macros.proofs.Opening.{Finding}
 use Rattle.macros.proofs.find_opened.Given as goal
 
 abbrev pub invariant-loop-n : goal.invariant-loop-n
-invariant-loop-n l = Finding l.names l.found l.n × (l.n ≤ l.named) × (length l.found ≡ length l.initial.found)
-
-abbrev pub decreases-loop-n : goal.decreases-loop-n
-decreases-loop-n l = l.named - l.n
+invariant-loop-n l = Finding l.names l.found l.n × (length l.found ≡ length l.initial.found)

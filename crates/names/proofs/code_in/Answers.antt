@@ -9,9 +9,6 @@ use Rattle.names.proofs.code_in.Goals as goal
 pub loop-i-init : goal.loop-i-init
 loop-i-init c = left_start _ _ c.requires.2
 
-pub wide-requires : goal.wide-requires
-wide-requires c = tt
-
 pub overflow_add-stop : goal.overflow_add-stop
 overflow_add-stop c =
     let now = c.loop-i in

@@ -3,7 +3,7 @@
 use Prim.Native.Nat.{◌+◌, ◌-◌, ◌/◌, ◌<◌}
 use mathlib.Core.Path.{sym, ap, ◌∙◌}
 use Rattle.model.proofs.SetLaws.{order_same}
-use Rattle.names.specs.declared.Found.TheVariants.{At}
+use Rattle.std.specs.Prelude.{Ok}
 use Rattle.names.proofs.Laws.{met_order, met_shared, search_start, search_shares, search_above, search_below, look_up_at, look_up_missing}
 use native.Mathlib.Omega.{arith}
 use Rattle.names.proofs.look_up.Goals as goal
@@ -13,9 +13,6 @@ loop-low-init c = search_start _ _ _ _
 
 pub at-n-requires : goal.at-n-requires
 at-n-requires c = omega (arith, c.requires.0.room)
-
-pub lesser-requires : goal.lesser-requires
-lesser-requires c = tt
 
 pub compare-met-requires : goal.compare-met-requires
 compare-met-requires c =
@@ -31,25 +28,25 @@ compare-met-requires c =
       rw at.ensures (search_shares table now.invariant middle (omega arith) (omega arith) _ (omega arith) (omega arith)),
     )
 
-pub loop-low-preserved-in-Before : goal.loop-low-preserved-in-Before
-loop-low-preserved-in-Before c =
+pub loop-low-preserved-in-Less : goal.loop-low-preserved-in-Less
+loop-low-preserved-in-Less c =
     let table = c.requires.0 in
     let now = c.loop-low in
     let middle = now.low + (now.high - now.low) / 2 in
     let read = c.at-n.ensures in
     let said = c.compare-met.ensures in
-    let order = met_order _ _ middle _ _ _ _ read said c.in-Before.is in
+    let order = met_order _ _ middle _ _ _ _ read said c.in-Less.is in
     search_above table now.invariant middle (omega arith) (omega arith) _ order (met_shared _ _ middle _ _ _ read said)
 
-pub returns-in-Same : goal.returns-in-Same
-returns-in-Same c =
+pub returns-in-Equal : goal.returns-in-Equal
+returns-in-Equal c =
     let table = c.requires.0 in
     let now = c.loop-low in
     let middle = now.low + (now.high - now.low) / 2 in
     let read = c.at-n.ensures in
     let said = c.compare-met.ensures in
-    let order = met_order _ _ middle _ _ _ _ read said c.in-Same.is in
-    ap At read ∙ sym (look_up_at table middle _ (omega arith) (order_same order))
+    let order = met_order _ _ middle _ _ _ _ read said c.in-Equal.is in
+    ap Ok read ∙ sym (look_up_at table middle _ (omega arith) (order_same order))
 
 pub loop-low-preserved : goal.loop-low-preserved
 loop-low-preserved c =
@@ -58,7 +55,7 @@ loop-low-preserved c =
     let middle = now.low + (now.high - now.low) / 2 in
     let read = c.at-n.ensures in
     let said = c.compare-met.ensures in
-    let order = met_order _ _ middle _ _ _ _ read said c.in-After.is in
+    let order = met_order _ _ middle _ _ _ _ read said c.in-Greater.is in
     search_below table now.invariant middle (omega arith) (omega arith) _ order (met_shared _ _ middle _ _ _ read said)
 
 pub returns : goal.returns

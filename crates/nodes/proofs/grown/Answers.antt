@@ -1,15 +1,12 @@
 -- `nodes::grown` meets its contract.
+use Rattle.model.proofs.ResultLaws.{refused_is}
 use Rattle.nodes.specs.Growing.{grown_to, with_term}
-use native.Mathlib.Omega.{arith}
 use Rattle.nodes.proofs.grown.Goals as goal
 
-pub overflow_add-next : goal.overflow_add-next
-overflow_add-next c = omega (arith, c.requires)
-
-pub returns-in-Done : goal.returns-in-Done
+pub returns : goal.returns
 unfolding grown_to with_term
-returns-in-Done c = rw c.in-Done.is
+returns c = rw c.in_ok-added.was
 
-pub returns-in-Full : goal.returns-in-Full
-unfolding grown_to with_term
-returns-in-Full c = rw c.in-Full.is
+pub returns-in_err-added : goal.returns-in_err-added
+unfolding grown_to
+returns-in_err-added c = rw (refused_is c.from_residual.ensures.1, c.in_err-added.was)

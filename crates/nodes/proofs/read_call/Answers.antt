@@ -1,4 +1,5 @@
 -- `nodes::read_call` meets its contract.
+use Rattle.model.proofs.ResultLaws.{refused_is}
 use mathlib.Core.Path.{ap₂, ◌∙◌}
 use Rattle.model.specs.Terms.{call}
 use Rattle.words.proofs.Slices.{same_self}
@@ -16,76 +17,49 @@ read_name-requires c =
 
 pub push_rest-requires : goal.push_rest-requires
 push_rest-requires c =
-    let read = reads_name c.read_name.ensures c.in-Name.is in
+    let read = reads_name c.read_name.ensures c.in_ok-n.was in
     pushable_start c.requires.0 read.onward.placed
 
-pub shape_of-names-in-Full : goal.shape_of-names-in-Full
-shape_of-names-in-Full c =
-    c.names-1.given
-
-pub shape_of-refs-in-Full : goal.shape_of-refs-in-Full
-shape_of-refs-in-Full c = c.refs-1.given
-
-pub returns-in-Full : goal.returns-in-Full
-returns-in-Full c =
+pub returns-in_err-within_limits : goal.returns-in_err-within_limits
+returns-in_err-within_limits c =
     let t = c.requires.0 in
-    let read = reads_name c.read_name.ensures c.in-Name.is in
-    let run = rest_ran _ t.term_table.few_rows _ _ _ (run_at c.push_rest.ensures c.in-At.is) in
+    let read = reads_name c.read_name.ensures c.in_ok-n.was in
+    let run = rest_ran _ t.term_table.few_rows _ _ _ (run_at c.push_rest.ensures c.in_ok-used.was) in
     let line = call_read c.args.k t _ read run in
-    line_over t line c.first_passed.ensures c.in-Full.is
+    rw (refused_is c.from_residual-in_err-within_limits.ensures.1) (line_over t line c.within_limits.ensures c.in_err-within_limits.was)
 
 pub add_call-requires : goal.add_call-requires
 add_call-requires c =
     let t = c.requires.0 in
-    let read = reads_name c.read_name.ensures c.in-Name.is in
-    let run = rest_ran _ t.term_table.few_rows _ _ _ (run_at c.push_rest.ensures c.in-At.is) in
+    let read = reads_name c.read_name.ensures c.in_ok-n.was in
+    let run = rest_ran _ t.term_table.few_rows _ _ _ (run_at c.push_rest.ensures c.in_ok-used.was) in
     let line = call_read c.args.k t _ read run in
-    let e = c.in_default.is in
-    (line_pushed t line c.first_passed.ensures e, (read.spelled.number (line_few t line c.first_passed.ensures e).0).0)
+    let e = c.in_ok-within_limits.was in
+    (line_pushed t line c.within_limits.ensures e, (read.spelled.number (line_few t line c.within_limits.ensures e).0).0)
 
 pub grown-requires : goal.grown-requires
 grown-requires c =
     c.requires.0.term_table.few_rows
 
-pub shape_of-names-in_default : goal.shape_of-names-in_default
-shape_of-names-in_default c =
-    c.names-1.given
-
-pub shape_of-refs-in_default : goal.shape_of-refs-in_default
-shape_of-refs-in_default c =
-    c.refs-1.given
-
-pub shape_of-rows : goal.shape_of-rows
-shape_of-rows c = c.rows-1.given
-
-pub returns-in_default : goal.returns-in_default
-returns-in_default c =
+pub returns : goal.returns
+returns c =
     let t = c.requires.0 in
-    let read = reads_name c.read_name.ensures c.in-Name.is in
-    let run = rest_ran _ t.term_table.few_rows _ _ _ (run_at c.push_rest.ensures c.in-At.is) in
+    let read = reads_name c.read_name.ensures c.in_ok-n.was in
+    let run = rest_ran _ t.term_table.few_rows _ _ _ (run_at c.push_rest.ensures c.in_ok-used.was) in
     let line = call_read c.args.k t _ read run in
-    let e = c.in_default.is in
-    let name = (read.spelled.number (line_few t line c.first_passed.ensures e).0).1 in
-    line_added t line c.first_passed.ensures e c.grown.ensures c.add_call.ensures (ap₂ call name (line_terms t c.first_passed.ensures e line run.small))
+    let e = c.in_ok-within_limits.was in
+    let name = (read.spelled.number (line_few t line c.within_limits.ensures e).0).1 in
+    line_added t line c.within_limits.ensures e c.grown.ensures c.add_call.ensures (ap₂ call name (line_terms t c.within_limits.ensures e line run.small))
 
-pub shape_of-names-in-Refused-push_rest : goal.shape_of-names-in-Refused-push_rest
-shape_of-names-in-Refused-push_rest c =
-    c.names-1.given
-
-pub shape_of-refs-in-Refused-push_rest : goal.shape_of-refs-in-Refused-push_rest
-shape_of-refs-in-Refused-push_rest c = c.refs-1.given
-
-pub returns-in-Refused-push_rest : goal.returns-in-Refused-push_rest
-returns-in-Refused-push_rest c =
+pub returns-in_err-used : goal.returns-in_err-used
+returns-in_err-used c =
     let read = reads_name c.read_name.ensures
-    c.in-Name.is in
-    let refused = rest_refused _ _ _ _ (run_not c.push_rest.ensures c.in-Refused-push_rest.is) in
-    line_not (call_said _ _ _ read.said ∙ rw refused) read.spelled.longer.kept c.push_rest.ensures.kept
+    c.in_ok-n.was in
+    let refused = rest_refused _ _ _ _ (run_not c.push_rest.ensures c.in_err-used.was) in
+    rw (refused_is c.from_residual-in_err-used.ensures.1)
+    (line_not (call_said _ _ _ read.said ∙ rw refused) read.spelled.longer.kept c.push_rest.ensures.kept)
 
-pub shape_of-names-in-Refused : goal.shape_of-names-in-Refused
-shape_of-names-in-Refused c = c.names-1.given
-
-pub returns-in-Refused : goal.returns-in-Refused
-returns-in-Refused c =
-    let (said, kept) = reads_not c.read_name.ensures c.in-Refused.is in
-    line_not (name_refused _ _ _ said).1 kept (same_self _ _ _)
+pub returns-in_err-n : goal.returns-in_err-n
+returns-in_err-n c =
+    let (said, kept) = reads_not c.read_name.ensures c.in_err-n.was in
+    rw (refused_is c.from_residual.ensures.1) (line_not (name_refused _ _ _ said).1 kept (same_self _ _ _))

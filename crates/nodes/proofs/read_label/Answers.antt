@@ -1,4 +1,5 @@
 -- `nodes::read_label` meets its contract.
+use Rattle.model.proofs.ResultLaws.{refused_is}
 use mathlib.Core.Path.{ap, ◌∙◌}
 use Rattle.model.specs.Terms.{labeled}
 use Rattle.words.proofs.Slices.{same_self}
@@ -13,58 +14,43 @@ pub push_term-requires : goal.push_term-requires
 push_term-requires c =
     (pushable_start c.requires.0 c.requires.1, omega arith)
 
-pub shape_of-refs-then-next : goal.shape_of-refs-then-next
-shape_of-refs-then-next c = c.refs-1.given
-
 pub returns-then-next : goal.returns-then-next
 returns-then-next c =
     let t = c.requires.0 in
-    let body = term_ran _ t.term_table.few_rows _ _ _ (run_at c.push_term.ensures c.in-At.is) in
+    let body = term_ran _ t.term_table.few_rows _ _ _ (run_at c.push_term.ensures c.in_ok-next.was) in
     line_not (label_said _ _ _ body.said ∙ end_more _ _ _ c.if-next.true) (same_self _ _ _) c.push_term.ensures.kept
 
 pub overflow_add-used : goal.overflow_add-used
 overflow_add-used c =
     omega (arith, c.requires.0.term_table.few_references)
 
-pub shape_of-refs-in-Full : goal.shape_of-refs-in-Full
-shape_of-refs-in-Full c = c.refs-1.given
-
-pub returns-in-Full : goal.returns-in-Full
-returns-in-Full c =
+pub returns-in_err-within_limits : goal.returns-in_err-within_limits
+returns-in_err-within_limits c =
     let t = c.requires.0 in
-    let body = term_ran _ t.term_table.few_rows _ _ _ (run_at c.push_term.ensures c.in-At.is) in
+    let body = term_ran _ t.term_table.few_rows _ _ _ (run_at c.push_term.ensures c.in_ok-next.was) in
     let line = label_read c.args.k t _ body c.if-next.false in
-    line_over t line c.first_passed.ensures c.in-Full.is
+    rw (refused_is c.from_residual-in_err-within_limits.ensures.1) (line_over t line c.within_limits.ensures c.in_err-within_limits.was)
 
 pub add_label-requires : goal.add_label-requires
 add_label-requires c =
     let t = c.requires.0 in
-    let body = term_ran _ t.term_table.few_rows _ _ _ (run_at c.push_term.ensures c.in-At.is) in
+    let body = term_ran _ t.term_table.few_rows _ _ _ (run_at c.push_term.ensures c.in_ok-next.was) in
     let line = label_read c.args.k t _ body c.if-next.false in
-    line_pushed t line c.first_passed.ensures c.in_default.is
+    line_pushed t line c.within_limits.ensures c.in_ok-within_limits.was
 
 pub grown-requires : goal.grown-requires
 grown-requires c =
     c.requires.0.term_table.few_rows
 
-pub shape_of-refs-in_default : goal.shape_of-refs-in_default
-shape_of-refs-in_default c =
-    c.refs-1.given
-
-pub shape_of-rows : goal.shape_of-rows
-shape_of-rows c = c.rows-1.given
-
-pub returns-in_default : goal.returns-in_default
-returns-in_default c =
+pub returns : goal.returns
+returns c =
     let t = c.requires.0 in
-    let body = term_ran _ t.term_table.few_rows _ _ _ (run_at c.push_term.ensures c.in-At.is) in
+    let body = term_ran _ t.term_table.few_rows _ _ _ (run_at c.push_term.ensures c.in_ok-next.was) in
     let line = label_read c.args.k t _ body c.if-next.false in
-    let e = c.in_default.is in
-    line_added t line c.first_passed.ensures e c.grown.ensures c.add_label.ensures (ap labeled (line_body t c.first_passed.ensures e _ line body.small))
+    let e = c.in_ok-within_limits.was in
+    line_added t line c.within_limits.ensures e c.grown.ensures c.add_label.ensures (ap labeled (line_body t c.within_limits.ensures e _ line body.small))
 
-pub shape_of-refs-in-Refused : goal.shape_of-refs-in-Refused
-shape_of-refs-in-Refused c = c.refs-1.given
-
-pub returns-in-Refused : goal.returns-in-Refused
-returns-in-Refused c =
-    line_not (body_refused _ _ _ (term_refused _ _ _ _ (run_not c.push_term.ensures c.in-Refused.is))).1 (same_self _ _ _) c.push_term.ensures.kept
+pub returns-in_err-next : goal.returns-in_err-next
+returns-in_err-next c =
+    rw (refused_is c.from_residual.ensures.1)
+    (line_not (body_refused _ _ _ (term_refused _ _ _ _ (run_not c.push_term.ensures c.in_err-next.was))).1 (same_self _ _ _) c.push_term.ensures.kept)

@@ -16,9 +16,6 @@ pub grown-requires : goal.grown-requires
 grown-requires c =
     c.requires.0.term_table.few_rows
 
-pub shape_of-rows : goal.shape_of-rows
-shape_of-rows c = c.rows-1.given
-
 pub returns : goal.returns
 returns c =
     let t = c.requires.0 in

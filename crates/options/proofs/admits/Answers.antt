@@ -1,13 +1,14 @@
--- `options::admits` meets its contract. The loop's invariant: the place `i` of what is left is the group's place of the groups.
-use mathlib.Core.Path.{refl, ◌∙◌}
-use Rattle.options.proofs.OptionsOf.{halved, admits_is}
+-- `options::admits` meets its contract. The loop's invariant: what is left is the groups after so many halvings.
+use mathlib.Core.Path.{◌∙◌}
+use native.Mathlib.Omega.{arith}
+use Rattle.options.proofs.OptionsOf.{halved_none, halved, admits_is}
 use Rattle.options.proofs.admits.Goals as goal
 
-pub loop-i-init : goal.loop-i-init
-loop-i-init c = refl
+pub loop-init : goal.loop-init
+loop-init c = halved_none _ _
 
-pub loop-i-preserved : goal.loop-i-preserved
-loop-i-preserved c = halved _ _ c.loop-i-test.true ∙ c.loop-i.invariant
+pub loop-preserved : goal.loop-preserved
+loop-preserved c = halved _ _ _ (omega arith) ∙ c.loop.invariant
 
 pub returns : goal.returns
-returns c = admits_is _ _ _ _ c.loop-i.invariant c.loop-i-test.false
+returns c = admits_is _ _ _ _ c.loop.invariant (omega arith)

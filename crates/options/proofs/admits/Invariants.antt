@@ -1,10 +1,8 @@
--- `options::admits` meets its contract. The loop's invariant: the place `i` of what is left is the group's place of the groups.
+-- `options::admits` meets its contract. The loop's invariant: what is left is the groups after so many halvings.
+use Prim.Native.Nat.{◌-◌}
 use mathlib.Core.Path.{◌≡◌}
 use Rattle.laws.specs.Places.{option_at}
 use Rattle.options.proofs.admits.Given as goal
 
-abbrev pub invariant-loop-i : goal.invariant-loop-i
-invariant-loop-i l = option_at l.i l.left ≡ option_at l.group l.groups
-
-abbrev pub decreases-loop-i : goal.decreases-loop-i
-decreases-loop-i l = l.i
+abbrev pub invariant-loop : goal.invariant-loop
+invariant-loop l = option_at (l.group - l.counter) l.left ≡ option_at l.group l.groups

@@ -16,9 +16,6 @@ pub overflow_cast-count : goal.overflow_cast-count
 overflow_cast-count c =
     omega (arith, put_count c.put_rows-count.ensures, c.requires.few)
 
-pub refused-requires : goal.refused-requires
-refused-requires c = tt
-
 pub returns-then-is_short : goal.returns-then-is_short
 returns-then-is_short c =
     short_listed c.put_rows-count.ensures c.requires.few c.if-is_short.true c.close_file.ensures c.refused.ensures

@@ -3,11 +3,7 @@ use native.Mathlib.Omega.{arith}
 use mathlib.Core.Path.{◌∙◌}
 use Rattle.prune.proofs.Rows.{rows_length_same}
 use Rattle.precedence.proofs.Putting.{defs_start, defs_next, defs_room, defs_end}
-use native.Mathlib.Omega.{arith}
 use Rattle.precedence.proofs.put_rows.Goals as goal
-
-pub clear-requires : goal.clear-requires
-clear-requires c = omega (arith, c.requires.1)
 
 pub loop-i-init : goal.loop-i-init
 loop-i-init c = defs_start _ _ _ _ _ c.clear.ensures
@@ -21,13 +17,6 @@ put_def-to-requires c = (
   c.loop-i.invariant.stamped.below,
   defs_room c.loop-i.invariant c.loop-i-test.true c.requires.3,
 )
-
-pub overflow_add-i : goal.overflow_add-i
-overflow_add-i c =
-    omega (arith, c.loop-i-test.true, c.requires.0.recorded.few)
-
-pub loop-i-smaller : goal.loop-i-smaller
-loop-i-smaller c = omega (arith, c.loop-i-test.true)
 
 pub loop-i-preserved : goal.loop-i-preserved
 loop-i-preserved c =

@@ -3,7 +3,7 @@ use mathlib.Core.Path.{refl, ◌∙◌}
 use lib.ListN.{length-set}
 use lib.Seq.{get_or-set_other}
 use Rattle.text.proofs.Laws.{mark_from, mark_to}
-use Rattle.printing.proofs.Lines.{starting_start, starting_next, starting_end}
+use Rattle.printing.proofs.Parts.{starting_start, starting_next, starting_end}
 use native.Mathlib.Omega.{arith}
 use Rattle.printing.proofs.line_starts.Goals as goal
 

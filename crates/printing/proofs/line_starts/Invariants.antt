@@ -3,7 +3,7 @@ use Prim.Native.Nat.{◌-◌}
 use mathlib.Core.Path.{◌≡◌}
 use lib.ListN.{length}
 use Rattle.printing.specs.Printed.{SameFrom}
-use Rattle.printing.proofs.Lines.{Starting}
+use Rattle.printing.proofs.Parts.{Starting}
 use Rattle.printing.proofs.line_starts.Given as goal
 
 abbrev pub invariant-loop-from : goal.invariant-loop-from

@@ -1,5 +1,5 @@
 -- `printing::name_of` meets its contract.
-use Rattle.printing.proofs.Lines.{named_short}
+use Rattle.printing.proofs.Parts.{named_short}
 use native.Mathlib.Omega.{arith}
 use Rattle.printing.proofs.name_of.Goals as goal
 

@@ -2,7 +2,7 @@
 use mathlib.Core.Path.{refl, sym, ◌∙◌}
 use Rattle.model.specs.Names.{bytes}
 use Rattle.text.proofs.Laws.{mark_from, mark_to}
-use Rattle.printing.proofs.Lines.{part_short, record_none, record_root, record_other}
+use Rattle.printing.proofs.Parts.{part_short, record_none, record_root, record_other}
 use native.Mathlib.Omega.{arith}
 use Rattle.printing.proofs.record_name.Goals as goal
 

@@ -2,7 +2,7 @@
 use Prim.Native.Nat.{◌+◌}
 use mathlib.Core.Path.{refl}
 use Rattle.text.proofs.Laws.{mark_from, mark_to}
-use Rattle.printing.proofs.Lines.{part_short, second_none, second_some}
+use Rattle.printing.proofs.Parts.{part_short, second_none, second_some}
 use native.Mathlib.Omega.{arith}
 use Rattle.printing.proofs.second_field.Goals as goal
 

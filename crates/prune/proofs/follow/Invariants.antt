@@ -8,7 +8,7 @@ use Rattle.prune.proofs.follow.Given as goal
 
 abbrev pub invariant-loop-j : goal.invariant-loop-j
 invariant-loop-j l =
-    (w : List ℕ) → QueueTo l.names l.recs l.lists l.k.names w l.initial.run l.initial.end 0 → QueueTo l.names l.recs l.lists l.k.names w l.run l.end l.j
+    (w : List ℕ) → QueueTo l.tables.names.now l.tables.recs.now l.tables.lists.now l.tables.k.names w l.initial.run l.initial.end 0 → QueueTo l.tables.names.now l.tables.recs.now l.tables.lists.now l.tables.k.names w l.run l.end l.j
 
 abbrev pub decreases-loop-j : goal.decreases-loop-j
 decreases-loop-j l = most_names - l.j

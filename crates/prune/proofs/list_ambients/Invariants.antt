@@ -4,7 +4,4 @@ use Rattle.prune.proofs.Walking.{Falling}
 use Rattle.prune.proofs.list_ambients.Given as goal
 
 abbrev pub invariant-loop-i : goal.invariant-loop-i
-invariant-loop-i l = Falling l.initial.run l.m (ambient_at l.recs l.a) l.initial.i l.run l.to l.i
-
-abbrev pub decreases-loop-i : goal.decreases-loop-i
-decreases-loop-i l = l.i
+invariant-loop-i l = Falling l.initial.run l.m (ambient_at l.tables.recs.now l.a) l.tables.k.records l.run l.to l.i

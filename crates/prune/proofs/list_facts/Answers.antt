@@ -9,12 +9,12 @@ pub list_reached-reached-requires : goal.list_reached-reached-requires
 list_reached-reached-requires c = (
   c.requires.0,
   c.requires.2,
-  reached_fit c.args.names.now c.args.recs.now c.args.run.now c.args.k c.args.a c.requires.4,
+  reached_fit c.args.tables.now.names.now c.args.tables.now.recs.now c.args.run.now c.args.tables.now.k c.args.a c.requires.4,
 )
 
 pub list_ambients-requires : goal.list_ambients-requires
 list_ambients-requires c =
-    let fits = ambients_after c.args.names.now c.args.recs.now c.args.run.now c.args.k c.args.a c.requires.4
+    let fits = ambients_after c.args.tables.now.names.now c.args.tables.now.recs.now c.args.run.now c.args.tables.now.k c.args.a c.requires.4
     c.list_reached-reached.ensures in
     (c.requires.1, omega (arith, c.requires.2, lists_length c.list_reached-reached.ensures), c.requires.3, fits)
 
@@ -24,5 +24,5 @@ shape_of-run c =
 
 pub returns : goal.returns
 returns c =
-    facts_listed c.args.names.now c.args.recs.now c.args.run.now c.args.k c.args.a c.list_reached-reached.ensures
+    facts_listed c.args.tables.now.names.now c.args.tables.now.recs.now c.args.run.now c.args.tables.now.k c.args.a c.list_reached-reached.ensures
     c.list_ambients.ensures

@@ -7,16 +7,16 @@ use Rattle.prune.proofs.list_group.Goals as goal
 
 pub list_kind-noted-requires : goal.list_kind-noted-requires
 list_kind-noted-requires c =
-    let fits = noted_fit c.args.names.now c.args.recs.now c.args.named c.args.kind
+    let fits = noted_fit c.args.tables.now.names.now c.args.tables.now.recs.now c.args.tables.now.k.names c.args.kind
     c.args.stamps c.args.run.now c.args.m c.requires.2 c.requires.5 c.requires.6 in
     (c.requires.0, c.requires.1, c.requires.2, c.requires.3, c.requires.4, fits)
 
 pub list_added-requires : goal.list_added-requires
 list_added-requires c =
-    let apart = noted_apart c.args.names.now c.args.recs.now c.args.named c.args.kind
+    let apart = noted_apart c.args.tables.now.names.now c.args.tables.now.recs.now c.args.tables.now.k.names c.args.kind
     c.args.stamps c.args.run.now c.args.m c.requires.2 c.requires.5 c.requires.6
     c.list_kind-noted.ensures in
-    let fits = added_fit c.args.names.now c.args.recs.now c.args.named c.args.kind
+    let fits = added_fit c.args.tables.now.names.now c.args.tables.now.recs.now c.args.tables.now.k.names c.args.kind
     c.args.stamps c.args.run.now c.args.m c.requires.2 c.requires.5 c.requires.6
     c.list_kind-noted.ensures in
     (c.requires.1, omega (arith, c.requires.2, apart.size), records_apart apart c.requires.2 c.requires.5, fits)
@@ -27,6 +27,6 @@ shape_of-run c =
 
 pub returns : goal.returns
 returns c =
-    group_listed c.args.names.now c.args.recs.now c.args.named c.args.kind
+    group_listed c.args.tables.now.names.now c.args.tables.now.recs.now c.args.tables.now.k.names c.args.kind
     c.args.stamps c.args.run.now c.args.m c.requires.2 c.requires.5 c.requires.6
     c.list_kind-noted.ensures c.list_added.ensures

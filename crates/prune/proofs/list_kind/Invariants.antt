@@ -3,7 +3,4 @@ use Rattle.prune.proofs.Stamps.{KindsTo}
 use Rattle.prune.proofs.list_kind.Given as goal
 
 abbrev pub invariant-loop-s : goal.invariant-loop-s
-invariant-loop-s l = KindsTo l.names l.recs l.named l.kind l.stamps l.initial.run l.m l.run l.to l.s
-
-abbrev pub decreases-loop-s : goal.decreases-loop-s
-decreases-loop-s l = l.s
+invariant-loop-s l = KindsTo l.tables.names.now l.tables.recs.now l.tables.k.names l.kind l.stamps l.initial.run l.m l.run l.to l.s

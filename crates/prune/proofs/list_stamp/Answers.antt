@@ -4,36 +4,13 @@ use Rattle.prune.proofs.Writing.{going_length}
 use Rattle.prune.proofs.Stamps.{chain_start, chain_less, chain_none, chain_one, chain_room, chain_end}
 use Rattle.prune.proofs.list_stamp.Goals as goal
 
-pub overflow_sub-stamp : goal.overflow_sub-stamp
-overflow_sub-stamp c =
-    omega (arith, c.requires.4)
-
-pub overflow_add-stamp : goal.overflow_add-stamp
-overflow_add-stamp c =
-    omega (arith, c.requires.5)
-
-pub at-next-requires : goal.at-next-requires
-at-next-requires c =
-    omega (arith, c.requires.2, c.requires.4, c.requires.5)
-
 pub loop-next-init : goal.loop-next-init
 loop-next-init c =
     chain_start c.requires.3 c.args.m c.requires.4 c.requires.5 c.at-next.ensures
 
-pub overflow_sub-next : goal.overflow_sub-next
-overflow_sub-next c = omega (arith, c.loop-next-test.true)
-
 pub kind_at-t-requires : goal.kind_at-t-requires
 kind_at-t-requires c =
     (c.requires.0, c.requires.1, omega (arith, c.loop-next.invariant.high, c.loop-next-test.true))
-
-pub overflow_sub-next-in-loop-next : goal.overflow_sub-next-in-loop-next
-overflow_sub-next-in-loop-next c =
-    omega (arith, c.loop-next-test.true)
-
-pub overflow_add-next : goal.overflow_add-next
-overflow_add-next c =
-    omega (arith, c.loop-next.invariant.high, c.requires.0.few)
 
 pub at-next-requires-in-loop-next : goal.at-next-requires-in-loop-next
 at-next-requires-in-loop-next c =
@@ -47,13 +24,6 @@ pub loop-next-preserved-then-t-eq0 : goal.loop-next-preserved-then-t-eq0
 loop-next-preserved-then-t-eq0 c =
     chain_none c.requires.3 c.requires.6 c.requires.0.few c.requires.4 c.requires.5 c.loop-next.invariant c.loop-next-test.true c.at-next-in-loop-next.ensures
     c.kind_at-t.ensures.0 c.if-t-eq0.true
-
-pub overflow_sub-run : goal.overflow_sub-run
-overflow_sub-run c = omega (arith, c.if-t-eq0.false)
-
-pub overflow_cast-run : goal.overflow_cast-run
-overflow_cast-run c =
-    omega (arith, c.kind_at-t.ensures.1)
 
 pub overflow_add-run : goal.overflow_add-run
 overflow_add-run c =

@@ -3,12 +3,13 @@ use native.Mathlib.Omega.{arith}
 use Rattle.text.proofs.Laws.{mark_from, mark_to}
 use Rattle.macros.proofs.Filling.{standing_opens}
 use Rattle.filing.proofs.Naming.{past_none}
-use Rattle.reader.specs.Lines.{read_stops}
+use Rattle.model.specs.declared.Refusal.TheVariants as refusal
+use Rattle.reader.specs.Lines.{at_line, read_stops}
 use Rattle.reader.proofs.Lines.{past_more, no_lines, on_first, cleared_standing, on_open, on_next, on_refused, no_terms, opened_read, lower}
 use Rattle.reader.proofs.read_file.Goals as goal
 
 pub returns-then-file-eq0 : goal.returns-then-file-eq0
-returns-then-file-eq0 c = record { reads = read_stops (no_lines _ c.if-file-eq0.true); past = past_none _ _ _ _ _; terms = no_terms }
+returns-then-file-eq0 c = record { reads = read_stops {x = at_line refusal.Form 1} (no_lines _ c.if-file-eq0.true); past = past_none _ _ _ _ _; terms = no_terms }
 
 pub loop-from-init : goal.loop-from-init
 loop-from-init c =
@@ -53,35 +54,43 @@ read_line-requires c = (
   omega (arith, c.loop-from.invariant.0.counts, c.loop-from.invariant.0.inside, c.loop-from.invariant.0.short),
 )
 
-pub shape_of-names-in-Refused : goal.shape_of-names-in-Refused
-shape_of-names-in-Refused c =
+pub shape_of-names-in-Err : goal.shape_of-names-in-Err
+shape_of-names-in-Err c =
     (past_more c.loop-from.invariant.1 c.read_line.ensures.past).name_words.same_length
 
-pub shape_of-refs-in-Refused : goal.shape_of-refs-in-Refused
-shape_of-refs-in-Refused c =
+pub shape_of-refs-in-Err : goal.shape_of-refs-in-Err
+shape_of-refs-in-Err c =
     (past_more c.loop-from.invariant.1 c.read_line.ensures.past).reference_words.same_length
 
-pub shape_of-rows-in-Refused : goal.shape_of-rows-in-Refused
-shape_of-rows-in-Refused c =
+pub shape_of-rows-in-Err : goal.shape_of-rows-in-Err
+shape_of-rows-in-Err c =
     (past_more c.loop-from.invariant.1 c.read_line.ensures.past).row_words.same_length
 
-pub shape_of-recs-in-Refused : goal.shape_of-recs-in-Refused
-shape_of-recs-in-Refused c =
+pub shape_of-recs-in-Err : goal.shape_of-recs-in-Err
+shape_of-recs-in-Err c =
     (past_more c.loop-from.invariant.1 c.read_line.ensures.past).record_words.same_length
 
-pub shape_of-lists-in-Refused : goal.shape_of-lists-in-Refused
-shape_of-lists-in-Refused c =
+pub shape_of-lists-in-Err : goal.shape_of-lists-in-Err
+shape_of-lists-in-Err c =
     (past_more c.loop-from.invariant.1 c.read_line.ensures.past).list_words.same_length
 
-pub returns-in-Refused : goal.returns-in-Refused
-returns-in-Refused c =
+pub returns-in-Err : goal.returns-in-Err
+returns-in-Err c =
     record {
       reads = on_refused c.loop-from.invariant.0 c.loop-from-test.true c.find-end.ensures
           (lower _ _ (mark_to _ _ _ _ _ c.find-end.ensures c.loop-from.invariant.0.inside (omega arith)) c.if-end-file.false)
-          c.read_line.ensures.reads c.in-Refused.is;
+          c.read_line.ensures.reads c.in-Err.is;
       past = past_more c.loop-from.invariant.1 c.read_line.ensures.past;
       terms = no_terms;
     }
+
+pub overflow_cast-result : goal.overflow_cast-result
+overflow_cast-result c =
+    omega (arith, c.loop-from.invariant.0.counts, c.loop-from.invariant.0.inside, c.loop-from.invariant.0.short)
+
+pub overflow_cast-result-in-Err : goal.overflow_cast-result-in-Err
+overflow_cast-result-in-Err c =
+    omega (arith, c.loop-from.invariant.0.counts, c.loop-from.invariant.0.inside, c.loop-from.invariant.0.short)
 
 pub overflow_add-n : goal.overflow_add-n
 overflow_add-n c =
@@ -99,7 +108,7 @@ pub loop-from-preserved : goal.loop-from-preserved
 loop-from-preserved c = (
   on_next c.loop-from.invariant.0 c.loop-from-test.true c.find-end.ensures
       (lower _ _ (mark_to _ _ _ _ _ c.find-end.ensures c.loop-from.invariant.0.inside (omega arith)) c.if-end-file.false)
-      c.read_line.ensures.reads c.in-On.is,
+      c.read_line.ensures.reads c.in-Ok.is,
   past_more c.loop-from.invariant.1 c.read_line.ensures.past,
 )
 

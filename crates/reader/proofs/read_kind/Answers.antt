@@ -1,7 +1,7 @@
 -- `reader::read_kind` meets its contract: each sort of line by its own.
-use Rattle.filing.proofs.Recording.{line_not, line_said}
+use Rattle.filing.proofs.Recording.{line_said}
 use Rattle.reader.proofs.Lifting.{ask_read, term_read}
-use Rattle.reader.proofs.Lines.{kind_ask, kind_also, kind_hide, kind_term, kind_record, kind_none}
+use Rattle.reader.proofs.Lines.{kind_ask, kind_also, kind_hide, kind_term, kind_record}
 use Rattle.reader.proofs.read_kind.Goals as goal
 
 pub read_ask-requires : goal.read_ask-requires
@@ -52,6 +52,3 @@ returns-in-Term c =
 pub returns-in-Record : goal.returns-in-Record
 returns-in-Record c =
     line_said (kind_record _ _ _ c.in-Record.is) c.read_record.ensures
-
-pub returns-in-No : goal.returns-in-No
-returns-in-No c = line_not _ _ _ _ _ _ _ _ _ (kind_none _ _ _ c.in-No.is)

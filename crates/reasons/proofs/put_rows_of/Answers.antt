@@ -1,6 +1,6 @@
 -- `reasons::put_rows_of` meets its contract. The loop's invariant: the rows of the ranks that are left are still to be put.
+use Prim.Native.Nat.{◌<◌, ◌≤◌}
 use native.Mathlib.Omega.{arith}
-use borrow.Author.Tests.{not-true, not-false}
 use Rattle.prune.proofs.Picking.{number_in}
 use Rattle.reasons.proofs.Listed.{entries_in}
 use Rattle.prune.proofs.Rows.{rows_start, rows_length_same, rows_end}
@@ -10,116 +10,103 @@ use Rattle.reasons.proofs.put_rows_of.Goals as goal
 pub loop-r-init : goal.loop-r-init
 loop-r-init c = rows_start _ _ _ _
 
-pub overflow_add-r : goal.overflow_add-r
-overflow_add-r c = omega (arith, c.requires.0.index.few, c.loop-r-test.true)
-
-pub at-n-requires : goal.at-n-requires
-at-n-requires c = omega (arith, c.requires.0.index.few, c.requires.0.index.room, c.loop-r-test.true)
-
-pub overflow_add-r-in-loop-r : goal.overflow_add-r-in-loop-r
-overflow_add-r-in-loop-r c = omega (arith, c.requires.0.index.few, c.loop-r-test.true)
-
 pub row_due-requires : goal.row_due-requires
 row_due-requires c =
-    let low = number_in c.requires.0.index c.loop-r-test.true c.at-n.ensures in
+    let inside : c.loop-r.r < c.args.tables.now.k.names = omega arith in
+    let low = number_in c.requires.0.index inside c.at-n.ensures in
     (entries_in c.requires.0.laid c.requires.1, c.requires.0.run_room, omega (arith, c.requires.0.index.few))
-
-pub loop-r-smaller-then-not-row_due : goal.loop-r-smaller-then-not-row_due
-loop-r-smaller-then-not-row_due c = omega (arith, c.loop-r-test.true)
 
 pub loop-r-preserved-then-not-row_due : goal.loop-r-preserved-then-not-row_due
 loop-r-preserved-then-not-row_due c =
-    rank_passed c.args.names.now c.args.recs.now c.args.lists.now c.args.run.now c.args.i
-    c.loop-r.invariant c.loop-r-test.true c.at-n.ensures c.row_due.ensures
-    (not-true _ c.if-not-row_due.true-raw)
+    let inside : c.loop-r.r < c.args.tables.now.k.names = omega arith in
+    rank_passed c.args.tables.now.names.now c.args.tables.now.recs.now c.args.tables.now.lists.now c.args.run.now c.args.i
+    c.loop-r.invariant inside c.at-n.ensures c.row_due.ensures
+    c.if-not-row_due.true
 
 pub overflow_add-n : goal.overflow_add-n
 overflow_add-n c =
+    let inside : c.loop-r.r < c.args.tables.now.k.names = omega arith in
     let low = number_in c.requires.0.index
-    c.loop-r-test.true c.at-n.ensures in
+    inside c.at-n.ensures in
     omega (arith, c.requires.0.index.few)
 
 pub at-supplier-requires : goal.at-supplier-requires
 at-supplier-requires c =
+    let inside : c.loop-r.r < c.args.tables.now.k.names = omega arith in
     let low = number_in c.requires.0.index
-    c.loop-r-test.true c.at-n.ensures in
+    inside c.at-n.ensures in
     omega
     (arith, c.requires.0.index.few, c.requires.0.run_room)
 
-pub overflow_add-line : goal.overflow_add-line
-overflow_add-line c = omega (arith, c.requires.0.laid.few_records, c.requires.1)
-
-pub offset_bounds-recs-i : goal.offset_bounds-recs-i
-offset_bounds-recs-i c = omega (arith, c.requires.0.laid.few_records, c.requires.1)
-
-pub bounds-recs-i : goal.bounds-recs-i
-bounds-recs-i c =
-    omega (arith, c.requires.0.laid.few_records, c.requires.0.laid.record_room, c.requires.1)
-
 pub overflow_sub-cause : goal.overflow_sub-cause
 overflow_sub-cause c =
+    let inside : c.loop-r.r < c.args.tables.now.k.names = omega arith in
     let low = number_in c.requires.0.index
-    c.loop-r-test.true c.at-n.ensures in
+    inside c.at-n.ensures in
     let supplier = supplier_in _ _
     c.requires.0 low
-    c.row_due.ensures (not-false _ c.if-not-row_due.false-raw) c.at-supplier.ensures in
+    c.row_due.ensures c.if-not-row_due.false c.at-supplier.ensures in
     omega (arith, supplier.some)
 
 pub overflow_add-cause : goal.overflow_add-cause
 overflow_add-cause c =
+    let inside : c.loop-r.r < c.args.tables.now.k.names = omega arith in
     let low = number_in c.requires.0.index
-    c.loop-r-test.true c.at-n.ensures in
+    inside c.at-n.ensures in
     let supplier = supplier_in _ _
     c.requires.0 low
-    c.row_due.ensures (not-false _ c.if-not-row_due.false-raw) c.at-supplier.ensures in
+    c.row_due.ensures c.if-not-row_due.false c.at-supplier.ensures in
     omega (arith, supplier.low, c.requires.0.laid.few_records)
 
-pub offset_bounds-recs-supplier : goal.offset_bounds-recs-supplier
-offset_bounds-recs-supplier c =
+pub offset_bounds-tables-supplier : goal.offset_bounds-tables-supplier
+offset_bounds-tables-supplier c =
+    let inside : c.loop-r.r < c.args.tables.now.k.names = omega arith in
     let low = number_in c.requires.0.index
-    c.loop-r-test.true c.at-n.ensures in
+    inside c.at-n.ensures in
     let supplier = supplier_in _ _
     c.requires.0 low
-    c.row_due.ensures (not-false _ c.if-not-row_due.false-raw) c.at-supplier.ensures in
+    c.row_due.ensures c.if-not-row_due.false c.at-supplier.ensures in
     omega (arith, supplier.low, c.requires.0.laid.few_records)
 
-pub bounds-recs-supplier : goal.bounds-recs-supplier
-bounds-recs-supplier c =
-    let low = number_in c.requires.0.index c.loop-r-test.true c.at-n.ensures in
-    let supplier = supplier_in _ _ c.requires.0 low c.row_due.ensures (not-false _ c.if-not-row_due.false-raw) c.at-supplier.ensures in
+pub bounds-tables-supplier : goal.bounds-tables-supplier
+bounds-tables-supplier c =
+    let inside : c.loop-r.r < c.args.tables.now.k.names = omega arith in
+    let low = number_in c.requires.0.index inside c.at-n.ensures in
+    let supplier = supplier_in _ _ c.requires.0 low c.row_due.ensures c.if-not-row_due.false c.at-supplier.ensures in
     omega (arith, supplier.low, supplier.some, c.requires.0.laid.few_records, c.requires.0.laid.record_room)
 
 pub overflow_cast-n : goal.overflow_cast-n
 overflow_cast-n c =
+    let inside : c.loop-r.r < c.args.tables.now.k.names = omega arith in
     let low = number_in
     c.requires.0.index
-    c.loop-r-test.true
+    inside
     c.at-n.ensures in
     omega (arith, c.requires.0.index.few)
 
 pub put_row-requires : goal.put_row-requires
 put_row-requires c =
-    let low = number_in c.requires.0.index c.loop-r-test.true c.at-n.ensures in
-    let due = not-false _ c.if-not-row_due.false-raw in
+    let inside : c.loop-r.r < c.args.tables.now.k.names = omega arith in
+    let low = number_in c.requires.0.index inside c.at-n.ensures in
+    let due = c.if-not-row_due.false in
     let supplier = supplier_in _ _ c.requires.0 low c.row_due.ensures due c.at-supplier.ensures in
-    let room = rank_room c.args.names.now c.args.recs.now c.args.lists.now c.args.run.now
-    c.args.i c.loop-r.invariant c.loop-r-test.true c.at-n.ensures c.row_due.ensures due c.requires.2 in
+    let room = rank_room c.args.tables.now.names.now c.args.tables.now.recs.now c.args.tables.now.lists.now c.args.run.now
+    c.args.i c.loop-r.invariant inside c.at-n.ensures c.row_due.ensures due c.requires.2 in
     (omega (arith, rows_length_same c.loop-r.invariant, c.requires.0.row_room), omega (arith, c.requires.0.index.few), supplier.line)
 
 pub overflow_add-to : goal.overflow_add-to
 overflow_add-to c =
-    let room = rank_room c.args.names.now c.args.recs.now c.args.lists.now c.args.run.now
-    c.args.i c.loop-r.invariant c.loop-r-test.true c.at-n.ensures c.row_due.ensures
-    (not-false _ c.if-not-row_due.false-raw) c.requires.2 in
+    let inside : c.loop-r.r < c.args.tables.now.k.names = omega arith in
+    let room = rank_room c.args.tables.now.names.now c.args.tables.now.recs.now c.args.tables.now.lists.now c.args.run.now
+    c.args.i c.loop-r.invariant inside c.at-n.ensures c.row_due.ensures
+    c.if-not-row_due.false c.requires.2 in
     omega (arith, room)
-
-pub loop-r-smaller : goal.loop-r-smaller
-loop-r-smaller c = omega (arith, c.loop-r-test.true)
 
 pub loop-r-preserved : goal.loop-r-preserved
 loop-r-preserved c =
-    rank_put c.args.names.now c.args.recs.now c.args.lists.now c.args.run.now c.args.i
-    c.loop-r.invariant c.loop-r-test.true c.at-n.ensures c.row_due.ensures (not-false _ c.if-not-row_due.false-raw)
+    let inside : c.loop-r.r < c.args.tables.now.k.names = omega arith in
+    rank_put c.args.tables.now.names.now c.args.tables.now.recs.now c.args.tables.now.lists.now c.args.run.now c.args.i
+    c.loop-r.invariant inside c.at-n.ensures c.row_due.ensures c.if-not-row_due.false
     c.at-supplier.ensures
     c.put_row.ensures
 
@@ -127,4 +114,6 @@ pub shape_of-refs : goal.shape_of-refs
 shape_of-refs c = rows_length_same c.loop-r.invariant
 
 pub returns : goal.returns
-returns c = rw rows_ranks (rows_end c.loop-r.invariant c.loop-r-test.false)
+returns c =
+    let over : c.args.tables.now.k.names ≤ c.loop-r.r = omega arith in
+    rw rows_ranks (rows_end c.loop-r.invariant over)

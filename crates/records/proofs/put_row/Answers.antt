@@ -6,11 +6,11 @@ use native.Mathlib.Omega.{arith}
 use Rattle.records.proofs.put_row.Goals as goal
 
 pub loop-c-init : goal.loop-c-init
-loop-c-init c = (refl, refl, omega arith)
+loop-c-init c = (refl, refl)
 
 pub loop-c-preserved : goal.loop-c-preserved
 loop-c-preserved c =
-    (c.loop-c.invariant.0 ∙ put_on _ _ _ _ c.loop-c-test.true, search rules, omega arith)
+    (c.loop-c.invariant.0 ∙ put_on _ _ _ _ (omega arith), search rules)
 
 pub returns : goal.returns
-returns c = sym (c.loop-c.invariant.0 ∙ put_end _ _ _ _ c.loop-c-test.false)
+returns c = sym (c.loop-c.invariant.0 ∙ put_end _ _ _ _ (omega arith))

@@ -4,12 +4,12 @@ use Rattle.rows.proofs.Laws.{filled, filled_start, filled_next}
 use Rattle.rows.proofs.write_rows.Goals as goal
 
 pub loop-i-init : goal.loop-i-init
-loop-i-init c = record { some = omega arith; written = sym (filled_start _ _) }
+loop-i-init c = sym (filled_start _ _)
 
 pub loop-i-preserved : goal.loop-i-preserved
 loop-i-preserved c =
     let next = filled_next c.args.core.now c.args.rows.now c.loop-i.i c.row_at.result (omega arith) (omega arith) in
-    record { some = omega arith; written = cc }
+    cc
 
 pub returns : goal.returns
 unfolding filled

@@ -1,5 +1,4 @@
 -- `suppliers::note_record` meets its contract. The loop's invariant: what is left to note comes to the whole.
-use Prim.Native.Nat.{◌-◌}
 use mathlib.Core.List.{◌∷◌}
 use Rattle.records.specs.Columns.{macro_at}
 use Rattle.macros.specs.Macros.{opens_at}
@@ -7,7 +6,4 @@ use Rattle.suppliers.proofs.Passing.{Left}
 use Rattle.suppliers.proofs.note_record.Given as goal
 
 abbrev pub invariant-loop-j : goal.invariant-loop-j
-invariant-loop-j l = Left (λ n. n ∷ opens_at l.recs l.lists (macro_at l.names n)) l.recs l.lists l.initial.run l.i l.a l.e l.run l.j
-
-abbrev pub decreases-loop-j : goal.decreases-loop-j
-decreases-loop-j l = l.e - l.j
+invariant-loop-j l = Left (λ n. n ∷ opens_at l.tables.recs.now l.tables.lists.now (macro_at l.tables.names.now n)) l.tables.recs.now l.tables.lists.now l.initial.run l.i l.a l.e l.run l.j

@@ -33,13 +33,6 @@ overflow_cast-result c =
       (run_over c.requires.0 c.requires.0.room placed.1 c.sweep_ask-passes.ensures).fits,
     )
 
-pub overflow_cast-result-2 : goal.overflow_cast-result-2
-overflow_cast-result-2 c =
-    omega (arith, c.sweep_ask-passes.ensures.few)
-
-pub shape_of-refs : goal.shape_of-refs
-shape_of-refs c = c.copy.ensures.same.same_length
-
 pub shape_of-run : goal.shape_of-run
 shape_of-run c =
     (sweep_rest c.sweep_ask-passes.ensures.same c.prune-kept.ensures.same).same_length

@@ -5,19 +5,19 @@ use Rattle.terms.proofs.Groups.{run_none, run_other, run_more}
 use Rattle.terms.proofs.group_end.Goals as goal
 
 pub loop-i-init : goal.loop-i-init
-loop-i-init c = (omega arith, omega arith, refl)
+loop-i-init c = refl
 
 pub returns-then-group-g : goal.returns-then-group-g
 returns-then-group-g c =
     let at = c.loop-i in
     let none = run_other c.args.refs.now c.args.g at.i c.args.e c.loop-i-test.true c.requires.1 (λ q. c.if-group-g.true (c.group.ensures ∙ q)) in
-    omega (arith, at.invariant.2)
+    omega (arith, at.invariant)
 
 pub loop-i-preserved : goal.loop-i-preserved
 loop-i-preserved c =
     let at = c.loop-i in
-    (omega arith, omega arith, at.invariant.2 ∙ run_more c.args.refs.now c.args.g at.i c.args.e c.loop-i-test.true c.requires.1 (sym c.group.ensures ∙ c.if-group-g.false))
+    at.invariant ∙ run_more c.args.refs.now c.args.g at.i c.args.e c.loop-i-test.true c.requires.1 (sym c.group.ensures ∙ c.if-group-g.false)
 
 pub returns : goal.returns
 returns c =
-    omega (arith, c.loop-i.invariant.2, run_none c.args.refs.now c.args.g c.loop-i.i c.args.e c.loop-i-test.false)
+    omega (arith, c.loop-i.invariant, run_none c.args.refs.now c.args.g c.loop-i.i c.args.e c.loop-i-test.false)

@@ -6,7 +6,7 @@ use Rattle.text.proofs.count_fields.Goals as goal
 use Rattle.text.proofs.count_fields.Goals.{then-s-i-eq44, else-s-i-eq44}
 
 pub loop-i-init : goal.loop-i-init
-loop-i-init c = (c.requires.0, omega arith, refl)
+loop-i-init c = (omega arith, refl)
 
 pub returns : goal.returns
 returns c = omega (arith, count_end c.args.s.now c.loop-i.i c.args.end c.loop-i-test.false)

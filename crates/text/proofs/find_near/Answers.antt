@@ -5,17 +5,17 @@ use Rattle.text.proofs.Laws.{mark_here, mark_on, mark_end}
 use Rattle.text.proofs.find_near.Goals as goal
 
 pub loop-j-init : goal.loop-j-init
-loop-j-init c = (c.requires.0, refl)
+loop-j-init c = refl
 
 pub returns-then-s-j : goal.returns-then-s-j
 returns-then-s-j c =
     let left = c.loop-j-test.true in
-    sym (c.loop-j.invariant.1 ∙ mark_here _ _ _ left c.requires.1 _ c.if-s-j.true)
+    sym (c.loop-j.invariant ∙ mark_here _ _ _ left c.requires.1 _ c.if-s-j.true)
 
 pub loop-j-preserved : goal.loop-j-preserved
 loop-j-preserved c =
     let left = c.loop-j-test.true in
-    (omega arith, c.loop-j.invariant.1 ∙ mark_on _ _ _ left c.requires.1 _ c.if-s-j.false)
+    c.loop-j.invariant ∙ mark_on _ _ _ left c.requires.1 _ c.if-s-j.false
 
 pub returns : goal.returns
-returns c = sym (c.loop-j.invariant.1 ∙ mark_end _ _ _ c.loop-j-test.false _ c.loop-j.invariant.0)
+returns c = sym (c.loop-j.invariant ∙ mark_end _ _ _ c.loop-j-test.false _ (omega arith))

@@ -11,33 +11,33 @@ pub gather_list-requires : goal.gather_list-requires
 gather_list-requires c =
     (c.requires.0, c.requires.1.name_room, c.requires.2, c.requires.3, c.requires.4, c.requires.1.fresh, c.requires.1.low, c.requires.1.high)
 
-pub returns-in_default : goal.returns-in_default
+pub returns-in_err-end : goal.returns-in_err-end
 unfolding file_list
-returns-in_default c =
+returns-in_err-end c =
     let both = posts (one_over (list_set c.args.refs.now c.args.rows.now c.args.used c.args.many c.args.a c.args.e)
     c.requires.0.few_names c.requires.1 c.gather_list.ensures.set c.gather_list.ensures.slices
-    c.gather_list.ensures.walk c.in_default.is) in
-    record { sets = both.0; slices = both.1.0; words = both.1.1 }
+    c.gather_list.ensures.walk c.in_err-end.was) in
+    rw c.from_residual.ensures (record { sets = both.0; slices = both.1.0; words = both.1.1 })
 
-pub shape_of-names-in_default : goal.shape_of-names-in_default
-shape_of-names-in_default c = (returns-in_default c).slices.names_same.same_length
+pub shape_of-names-in_err-end : goal.shape_of-names-in_err-end
+shape_of-names-in_err-end c = (returns-in_err-end c).slices.names_same.same_length
 
-pub shape_of-rows-in_default : goal.shape_of-rows-in_default
-shape_of-rows-in_default c = (returns-in_default c).slices.rows_same.same_length
+pub shape_of-rows-in_err-end : goal.shape_of-rows-in_err-end
+shape_of-rows-in_err-end c = (returns-in_err-end c).slices.rows_same.same_length
 
-pub shape_of-lists-in_default : goal.shape_of-lists-in_default
-shape_of-lists-in_default c = (returns-in_default c).slices.lists_same.same_length
+pub shape_of-lists-in_err-end : goal.shape_of-lists-in_err-end
+shape_of-lists-in_err-end c = (returns-in_err-end c).slices.lists_same.same_length
 
 pub close-requires : goal.close-requires
 close-requires c =
-    one_asks c.requires.1 c.gather_list.ensures.slices c.in-Names.is
+    one_asks c.requires.1 c.gather_list.ensures.slices c.in_ok-end.was
 
 pub returns : goal.returns
 unfolding file_list
 returns c =
     let both = posts (one_closed (list_set c.args.refs.now c.args.rows.now c.args.used c.args.many c.args.a c.args.e)
     c.requires.0.few_names c.requires.1 c.gather_list.ensures.set c.gather_list.ensures.slices
-    c.gather_list.ensures.walk c.in-Names.is c.close.ensures) in
+    c.gather_list.ensures.walk c.in_ok-end.was c.close.ensures) in
     record { sets = both.0; slices = both.1.0; words = both.1.1 }
 
 pub shape_of-names : goal.shape_of-names

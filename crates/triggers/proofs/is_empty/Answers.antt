@@ -1,10 +1,11 @@
 -- `triggers::is_empty` meets its contract: a set that is gathered without room is empty.
 use native.Mathlib.Omega.{arith}
-use mathlib.Core.Path.{refl, ap}
+use mathlib.Core.Path.{refl, ap, ◌∙◌}
+use Rattle.std.specs.Option.{is_some}
 use lib.ListN.{length}
 use Rattle.triggers.proofs.Marked.{all_there}
 use Rattle.triggers.proofs.Words.{asked_none, asked_more}
-use Rattle.triggers.proofs.Grouping.{patterns_asks, empty_none, empty_more, single_asks, single_empty, single_full, single_none, single_some, tables_kept, tables_gathered}
+use Rattle.triggers.proofs.Grouping.{by_option, patterns_asks, empty_none, empty_more, single_asks, single_empty, single_full, single_none, single_some, tables_kept, tables_gathered}
 use Rattle.triggers.proofs.is_empty.Goals as goal
 
 pub pattern_groups-p-requires : goal.pattern_groups-p-requires
@@ -42,28 +43,25 @@ gather_list-requires c =
     let opened = c.requires.1 in
     (c.requires.0, opened.name_room, asks.0, asks.1, asks.2, opened.fresh, omega arith, omega (arith, opened.low, opened.high))
 
-pub returns-in-Names : goal.returns-in-Names
-returns-in-Names c =
-    let one = c.if-p-ne1.false in
-    let is = c.in-Names.is in
-    let all = all_there c.requires.0 c.requires.2 c.pattern_groups-p.ensures.0 c.if-p-eq0.false refl c.pattern_groups-p.ensures.2 in
-    record { answer = λ exclude name d. single_empty c.requires.0 c.requires.2 all one c.pattern_groups-p.ensures.1 exclude is (c.gather_list.ensures.set exclude name d); tables = tables_gathered c.requires.1.fresh c.gather_list.ensures.slices; words = single_none c.requires.0 c.requires.2 all one c.pattern_groups-p.ensures.1 c.gather_list.ensures.slices c.gather_list.ensures.walk is }
-
-pub shape_of-names-in-Names : goal.shape_of-names-in-Names
-shape_of-names-in-Names c = (returns-in-Names c).tables.0.same_length
-
-pub shape_of-rows-in-Names : goal.shape_of-rows-in-Names
-shape_of-rows-in-Names c = (returns-in-Names c).tables.1.same_length
-
-pub shape_of-lists-in-Names : goal.shape_of-lists-in-Names
-shape_of-lists-in-Names c = ap length (returns-in-Names c).words.lists_words
-
 pub returns : goal.returns
 returns c =
     let one = c.if-p-ne1.false in
-    let is = c.in_default.is in
     let all = all_there c.requires.0 c.requires.2 c.pattern_groups-p.ensures.0 c.if-p-eq0.false refl c.pattern_groups-p.ensures.2 in
-    record { answer = λ exclude name d. single_full c.requires.0 c.requires.2 all one c.pattern_groups-p.ensures.1 exclude is (c.gather_list.ensures.set exclude name d); tables = tables_gathered c.requires.1.fresh c.gather_list.ensures.slices; words = single_some c.requires.0 c.requires.2 all one c.pattern_groups-p.ensures.1 c.gather_list.ensures.slices c.gather_list.ensures.walk is }
+    let set = c.gather_list.ensures.set in
+    let walk = c.gather_list.ensures.walk in
+    let slices = c.gather_list.ensures.slices in
+    let starts = c.pattern_groups-p.ensures.1 in
+    by_option c.gather_list.result
+    (λ n is. rw (c.is_some.ensures ∙ ap is_some is) (record {
+      answer = λ exclude name d. single_empty c.requires.0 c.requires.2 all one starts exclude is (set exclude name d);
+      tables = tables_gathered c.requires.1.fresh slices;
+      words = single_none c.requires.0 c.requires.2 all one starts slices walk is;
+    }))
+    (λ is. rw (c.is_some.ensures ∙ ap is_some is) (record {
+      answer = λ exclude name d. single_full c.requires.0 c.requires.2 all one starts exclude is (set exclude name d);
+      tables = tables_gathered c.requires.1.fresh slices;
+      words = single_some c.requires.0 c.requires.2 all one starts slices walk is;
+    }))
 
 pub shape_of-names : goal.shape_of-names
 shape_of-names c = (returns c).tables.0.same_length

@@ -22,54 +22,53 @@ shape_of-rows-then-groups-eq0 c = refl
 pub loop-g-init : goal.loop-g-init
 loop-g-init c =
     let all = all_there c.requires.0 c.requires.2 c.pattern_groups-p.ensures.0 c.if-groups-eq0.false refl c.pattern_groups-p.ensures.2 in
-    (all, omega arith, groups_first c.requires.0 all c.pattern_groups-p.ensures.1, groups_start _ _ _ c.requires.1)
+    (all, groups_first c.requires.0 all c.pattern_groups-p.ensures.1, groups_start _ _ _ c.requires.1)
 
 pub group_end-b-requires : goal.group_end-b-requires
 group_end-b-requires c =
-    groups_asks c.requires.0 c.loop-g.invariant.0 c.loop-g.invariant.2
+    groups_asks c.requires.0 c.loop-g.invariant.0 c.loop-g.invariant.1
 
 pub overflow_sub-end : goal.overflow_sub-end
-overflow_sub-end c = (comes_ends c.loop-g.invariant.3).0
+overflow_sub-end c = (comes_ends c.loop-g.invariant.2).0
 
 pub overflow_add-mark : goal.overflow_add-mark
 overflow_add-mark c =
-    let ends = comes_ends c.loop-g.invariant.3 in
+    let ends = comes_ends c.loop-g.invariant.2 in
     omega (arith, c.requires.1.few_marks, ends.0, ends.1)
 
 pub file_list-requires : goal.file_list-requires
 file_list-requires c =
-    let asks = group_asks c.requires.0 c.loop-g.invariant.0 c.loop-g.invariant.2 c.group_end-b.ensures in
-    (rows_marked c.loop-g.invariant.3.filled.rows_same c.requires.0, opened_then c.requires.1 c.loop-g.invariant.3, asks.0, asks.1, asks.2)
+    let asks = group_asks c.requires.0 c.loop-g.invariant.0 c.loop-g.invariant.1 c.group_end-b.ensures in
+    (rows_marked c.loop-g.invariant.2.filled.rows_same c.requires.0, opened_then c.requires.1 c.loop-g.invariant.2, asks.0, asks.1, asks.2)
 
-pub returns-in_default : goal.returns-in_default
-returns-in_default c =
-    let both = posts (groups_full c.requires.0 c.loop-g.invariant.0 c.requires.2 c.loop-g-test.true c.in_default.is
-    (groups_then c.requires.0 c.loop-g.invariant.0 c.loop-g.invariant.2 c.group_end-b.ensures c.requires.1.high
-    c.loop-g.invariant.3 (comes_of _ (c.file_list.ensures.sets, (c.file_list.ensures.slices, c.file_list.ensures.words))))) in
-    record { sets = both.0; slices = both.1.0; words = both.1.1 }
+pub returns-in_err-filed : goal.returns-in_err-filed
+returns-in_err-filed c =
+    let both = posts (groups_full c.requires.0 c.loop-g.invariant.0 c.requires.2 (omega arith) c.in_err-filed.was
+    (groups_then c.requires.0 c.loop-g.invariant.0 c.loop-g.invariant.1 c.group_end-b.ensures c.requires.1.high
+    c.loop-g.invariant.2 (comes_of _ (c.file_list.ensures.sets, (c.file_list.ensures.slices, c.file_list.ensures.words))))) in
+    rw c.from_residual.ensures (record { sets = both.0; slices = both.1.0; words = both.1.1 })
 
-pub shape_of-names-in_default : goal.shape_of-names-in_default
-shape_of-names-in_default c = (returns-in_default c).slices.names_same.same_length
+pub shape_of-names-in_err-filed : goal.shape_of-names-in_err-filed
+shape_of-names-in_err-filed c = (returns-in_err-filed c).slices.names_same.same_length
 
-pub shape_of-rows-in_default : goal.shape_of-rows-in_default
-shape_of-rows-in_default c = (returns-in_default c).slices.rows_same.same_length
+pub shape_of-rows-in_err-filed : goal.shape_of-rows-in_err-filed
+shape_of-rows-in_err-filed c = (returns-in_err-filed c).slices.rows_same.same_length
 
-pub shape_of-lists-in_default : goal.shape_of-lists-in_default
-shape_of-lists-in_default c = (returns-in_default c).slices.lists_same.same_length
+pub shape_of-lists-in_err-filed : goal.shape_of-lists-in_err-filed
+shape_of-lists-in_err-filed c = (returns-in_err-filed c).slices.lists_same.same_length
 
 pub loop-g-preserved : goal.loop-g-preserved
 loop-g-preserved c = (
   c.loop-g.invariant.0,
-  omega arith,
-  groups_next c.requires.0 c.loop-g.invariant.0 c.loop-g.invariant.2 c.group_end-b.ensures,
-  groups_again c.loop-g.g c.in-Sets.is (comes_of _ (c.file_list.ensures.sets, (c.file_list.ensures.slices, c.file_list.ensures.words)))
-      (groups_then c.requires.0 c.loop-g.invariant.0 c.loop-g.invariant.2 c.group_end-b.ensures c.requires.1.high
-      c.loop-g.invariant.3 (comes_of _ (c.file_list.ensures.sets, (c.file_list.ensures.slices, c.file_list.ensures.words)))),
+  groups_next c.requires.0 c.loop-g.invariant.0 c.loop-g.invariant.1 c.group_end-b.ensures,
+  groups_again c.loop-g.g c.in_ok-filed.was (comes_of _ (c.file_list.ensures.sets, (c.file_list.ensures.slices, c.file_list.ensures.words)))
+      (groups_then c.requires.0 c.loop-g.invariant.0 c.loop-g.invariant.1 c.group_end-b.ensures c.requires.1.high
+      c.loop-g.invariant.2 (comes_of _ (c.file_list.ensures.sets, (c.file_list.ensures.slices, c.file_list.ensures.words)))),
 )
 
 pub returns : goal.returns
 returns c =
-    let both = posts (groups_done c.requires.0 c.loop-g.invariant.0 c.requires.2 c.loop-g.invariant.1 c.loop-g-test.false c.loop-g.invariant.3) in
+    let both = posts (groups_done c.requires.0 c.loop-g.invariant.0 c.requires.2 (omega arith) (omega arith) c.loop-g.invariant.2) in
     record { sets = both.0; slices = both.1.0; words = both.1.1 }
 
 pub shape_of-names : goal.shape_of-names

@@ -2,5 +2,4 @@
 use Rattle.wimplejade.proofs.wimplejade_filter.Goals as goal
 
 pub returns : goal.returns
-returns c =
-    record { answer = _; replied = c.in_numbers.ensures; promise = c.filter.ensures }
+returns c = record { answer = _; replied = c.from.ensures; promise = c.filter.ensures }

@@ -2,5 +2,4 @@
 use Rattle.wimplejade.proofs.wimplejade_sweep.Goals as goal
 
 pub returns : goal.returns
-returns c =
-    record { answer = _; replied = c.sweep_in_numbers.ensures; promise = c.sweep.ensures }
+returns c = record { answer = _; replied = c.from.ensures; promise = c.sweep.ensures }

@@ -3,4 +3,4 @@ use Rattle.why.proofs.Laws.{called}
 use Rattle.wimplejade.proofs.wimplejade_why.Goals as goal
 
 pub returns : goal.returns
-returns c = called c.find_rows-told.ensures c.write_rows.ensures c.clear_rows.ensures
+returns c = called c.find_rows-told.ensures c.move_rows.ensures.written c.move_rows.ensures.cleared

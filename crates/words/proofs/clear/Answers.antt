@@ -8,20 +8,20 @@ loop-i-init c = zeroing_start _ _ _
 
 pub clear_block-requires : goal.clear_block-requires
 clear_block-requires c =
-    omega (arith, c.next_block-n.ensures, c.loop-i.invariant.same.same_length, c.requires)
+    omega (arith, c.min-n.ensures, c.loop-i.invariant.same.same_length, c.requires)
 
 pub overflow_add-i : goal.overflow_add-i
 overflow_add-i c =
-    omega (arith, c.next_block-n.ensures, c.loop-i-test.true, c.requires)
+    omega (arith, c.min-n.ensures, c.loop-i-test.true, c.requires)
 
 pub loop-i-smaller : goal.loop-i-smaller
 loop-i-smaller c =
-    omega (arith, c.next_block-n.ensures, c.loop-i-test.true)
+    omega (arith, c.min-n.ensures, c.loop-i-test.true)
 
 pub loop-i-preserved : goal.loop-i-preserved
 loop-i-preserved c =
     zeroing_block c.loop-i.invariant c.clear_block.ensures
-    (omega (arith, c.next_block-n.ensures, c.loop-i-test.true))
+    (omega (arith, c.min-n.ensures, c.loop-i-test.true))
 
 pub shape_of-w : goal.shape_of-w
 shape_of-w c = c.loop-i.invariant.same.same_length

@@ -3,7 +3,4 @@ use native.Mathlib.Omega.{arith}
 use Rattle.factfilter.proofs.list.print.Goals as goal
 
 pub print-requires : goal.print-requires
-print-requires c = (omega arith, omega arith, omega arith, c.requires.1)
-
-pub returns : goal.returns
-returns c = tt
+print-requires g c = (omega arith, omega arith, omega arith, c.requires.1)

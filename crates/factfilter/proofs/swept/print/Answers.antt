@@ -3,7 +3,4 @@ use native.Mathlib.Omega.{arith}
 use Rattle.factfilter.proofs.swept.print.Goals as goal
 
 pub print_sweep-requires : goal.print_sweep-requires
-print_sweep-requires c = (omega arith, omega arith, omega arith, c.requires.1)
-
-pub returns : goal.returns
-returns c = tt
+print_sweep-requires g c = (omega arith, omega arith, omega arith, c.requires.1)

@@ -2,4 +2,4 @@
 use Rattle.factfilter.proofs.swept.run.Goals as goal
 
 pub print-requires : goal.print-requires
-print-requires c = (c.requires, c.sweep_file-a.ensures.room)
+print-requires g c = (c.requires, c.sweep_file-a.ensures.room)

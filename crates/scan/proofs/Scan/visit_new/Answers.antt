@@ -1,37 +1,24 @@
 -- `scan::Scan::visit_new` meets its contract. The loop's invariant: the names so far are swept.
 use native.Mathlib.Omega.{arith}
-use Rattle.scan.proofs.Chaining.{sweep_start, sweep_fired, sweep_visits, sweep_steady, sweep_skip, sweep_next, sweep_end}
+use Rattle.scan.proofs.Chaining.{sweep_start, sweep_visits, sweep_steady, sweep_skip, sweep_next, sweep_end}
 use Rattle.scan.proofs.Scan.visit_new.Goals as goal
 
 pub loop-n-init : goal.loop-n-init
 loop-n-init c = sweep_start c.requires.0 _ _
 
-pub overflow_add-n : goal.overflow_add-n
-overflow_add-n c = let few = c.requires.0.few_names in omega arith
-
-pub at-requires : goal.at-requires
-at-requires c =
-    let few = c.requires.0.few_names in
-    let long = c.requires.1.room.long in
-    let same = (sweep_fired c.requires.0 _ c.requires.1 c.loop-n.invariant).same_length in
-    omega (arith, c.loop-n-test.true)
-
 pub loop-n-preserved-then-at-round : goal.loop-n-preserved-then-at-round
 loop-n-preserved-then-at-round c =
-    sweep_skip c.requires.0 _ c.requires.1 c.loop-n.invariant c.loop-n-test.true _ c.at.ensures c.if-at-round.true
+    sweep_skip c.requires.0 _ c.requires.1 c.loop-n.invariant (omega arith) _ c.at.ensures c.if-at-round.true
 
 pub visit_chain-s-requires : goal.visit_chain-s-requires
 visit_chain-s-requires c =
     let inv = c.loop-n.invariant in
     let visits = sweep_visits c.requires.0 _ c.requires.1 inv in
-    (c.requires.0, sweep_steady c.requires.0 _ c.requires.1 inv c.requires.2, omega (arith, c.requires.2), c.loop-n-test.true)
+    (c.requires.0, sweep_steady c.requires.0 _ c.requires.1 inv c.requires.2, omega (arith, c.requires.2), (omega arith))
 
 pub loop-n-preserved : goal.loop-n-preserved
 loop-n-preserved c =
-    sweep_next c.requires.0 _ c.requires.1 c.loop-n.invariant c.loop-n-test.true _ c.at.ensures c.if-at-round.false c.visit_chain-s.ensures
-
-pub shape_of-run : goal.shape_of-run
-shape_of-run c = (sweep_fired c.requires.0 _ c.requires.1 c.loop-n.invariant).same_length
+    sweep_next c.requires.0 _ c.requires.1 c.loop-n.invariant (omega arith) _ c.at.ensures c.if-at-round.false c.visit_chain-s.ensures
 
 pub returns : goal.returns
-returns c = sweep_end c.requires.0 _ c.loop-n.invariant c.loop-n-test.false
+returns c = sweep_end c.requires.0 _ c.loop-n.invariant (omega arith)

@@ -1,11 +1,7 @@
 -- `scan::Scan::visit_new` meets its contract. The loop's invariant: the names so far are swept.
-use Prim.Native.Nat.{◌-◌}
 use Rattle.scan.specs.Steps.{going}
 use Rattle.scan.proofs.Chaining.{Swept}
 use Rattle.scan.proofs.Scan.visit_new.Given as goal
 
 abbrev pub invariant-loop-n : goal.invariant-loop-n
-invariant-loop-n l = Swept l.names l.recs l.lists l.k l.a (going l.initial.s l.initial.run) l.n (going l.s l.run)
-
-abbrev pub decreases-loop-n : goal.decreases-loop-n
-decreases-loop-n l = l.named - l.n
+invariant-loop-n l = Swept l.tables.names.now l.tables.recs.now l.tables.lists.now l.tables.k l.a (going l.initial.s l.initial.run) l.n (going l.s l.run)

@@ -1,6 +1,6 @@
 -- `text::Cursor::number` meets its contract. The loop's invariant: the value is made of the value so far and the bytes from `i` on.
 use mathlib.Core.Path.{refl, sym, ◌∙◌}
-use mathlib.Core.Option.{none}
+use Rattle.std.specs.Prelude.{None as none}
 use Rattle.text.proofs.Laws.{field_none, number_refused, number_read, number_none, walk_start, walk_on, walk_comma, walk_end, walk_out, valued_on, valued_bad, valued_past, valued_end, digit_low, digit_high, digit_good}
 use native.Mathlib.Omega.{arith}
 use Rattle.text.proofs.Cursor.number.Goals as goal

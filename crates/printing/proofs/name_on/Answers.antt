@@ -1,9 +1,0 @@
--- `printing::name_on` meets its contract.
-use mathlib.Core.Path.{◌∙◌}
-use Rattle.printing.proofs.Lines.{name_in}
-use Rattle.printing.proofs.name_on.Goals as goal
-
-pub returns : goal.returns
-returns c =
-    let (field, short, lies) = c.second_field.ensures in
-    (field ∙ name_in c.line_span-s.ensures, short, lies)
