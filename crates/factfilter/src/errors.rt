@@ -1,4 +1,8 @@
 // Why the program gives no answer, and its words for it on standard error.
+ghost use Rattle.std.specs.Prelude.{◌≡◌};
+ghost use Rattle.factfilter.specs.declared.errors.Error.TheVariants.{Unwritten};
+ghost use Rattle.factfilter.specs.Errors.{refusal_told};
+
 use model::{Refusal, Verdict};
 use std::io::{self, Write};
 
@@ -14,13 +18,18 @@ pub enum Error {
 
 // A failed write: where standard input fails, `Unread` is said at the read.
 impl From<io::Error> for Error {
+    ghost from_gives = { λ _ e. e ≡ Unwritten };
+
     fn from(_: io::Error) -> Error {
         Error::Unwritten
     }
 }
 
 // `Ok` where a call accepts, else the refusal and its place as an error.
-pub fn told(v: Verdict, place: u32) -> Result<(), Error> {
+#[tactic(auto, unfolding(crate::specs::Errors::refusal_told))]
+pub fn told(v: Verdict, place: u32) -> Result<(), Error>
+    ensures { result ≡ refusal_told v place }
+{
     match v {
         Verdict::Accepted => Ok(()),
         Verdict::Refused(r) => Err(Error::Refused(r, place)),
