@@ -311,12 +311,12 @@ assume_count p = rw p.form refl
 
 module _ (s : State) (k : Kind) (fs : List Field) {r : Option ℕ} (p : r ≡ fixed_of s k) where
   -- a count that is not fixed
-  pub count_free : r ≡ none → true ≡ well_counted s k fs
+  pub count_free : r ≡ none → true ≡ well_counted s (ok k) fs
   unfolding well_counted holds
   count_free e = rw (sym p ∙ e)
 
   -- a count that is
-  pub count_fixed : {m n : ℕ} → m ≡ length fs → r ≡ some n → eqb m n ≡ well_counted s k fs
+  pub count_fixed : {m n : ℕ} → m ≡ length fs → r ≡ some n → eqb m n ≡ well_counted s (ok k) fs
   unfolding well_counted holds
   count_fixed {m} {n} d e = rw (d, sym p ∙ e) (twice (eqb (length fs) n))
     where
@@ -336,7 +336,7 @@ turned false x y = refl
 module _ (s : State) (f : Field) (fs : List Field) where
   -- a line by its kind and the number of its fields
   pub parse_law : {grouped : Bool} {count : ℕ} (k : Kind) → s.grouped ≡ grouped → length s.terms ≡ count → ok (known_kind k) ≡ kind_field s f
-      → parse s (f ∷ fs) ≡ cond (well_counted s k (f ∷ fs)) (content (known_kind k) grouped count fs) (refused refusal.Form)
+      → parse s (f ∷ fs) ≡ cond (well_counted s (ok k) (f ∷ fs)) (content (known_kind k) grouped count fs) (refused refusal.Form)
   unfolding parse next well_counted fixed_of
   parse_law k g d e =
       rw (← e, ← g, ← d)

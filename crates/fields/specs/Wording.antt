@@ -109,9 +109,10 @@ pub record Placing (s : State) (k : Counts) : Type 0 where
 unfoldable pub fixed_of : State → Kind → Option ℕ
 fixed_of s k = fixed_count s (known_kind k)
 
--- whether a line has as many fields as its kind asks for
-unfoldable pub well_counted : State → Kind → List Field → Bool
-well_counted s k fs = not (holds (λ n. not (eqb (length fs) n)) (fixed_of s k))
+-- whether a line has as many fields as its kind asks for; of one that has no kind they are not counted
+unfoldable pub well_counted : State → Result Kind → List Field → Bool
+well_counted s (ok k) fs = not (holds (λ n. not (eqb (length fs) n)) (fixed_of s k))
+well_counted s (refused x) fs = true
 
 -- a field that is an op word: 1
 unfoldable pub op_field : Field → Result Op

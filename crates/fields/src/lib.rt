@@ -266,14 +266,18 @@ fn fixed_count(k: Counts, kind: Kind) -> Option<usize>
     }
 }
 
-// Whether the line from `a` up to `e` has as many fields as its kind asks for; where that is not fixed, they are not counted.
-pub fn counted(file: &[u8], k: Counts, kind: Kind, a: usize, e: usize) -> bool
+// Whether the line from `a` up to `e` has as many fields as its kind asks for; where that is not fixed, or the line has no kind,
+// they are not counted.
+pub fn counted(file: &[u8], k: Counts, kind: Result<Kind, Refusal>, a: usize, e: usize) -> bool
     requires { (a ≤ e) × (e ≤ length file.now) × (length file.now ≤ 65535) }
     ensures { (s : State) → Placing s k → result ≡ well_counted s kind (fields (part file.now a e)) }
 {
-    match fixed_count(k, kind) {
-        Some(fixed) => text::count_fields(file, a, e) == fixed,
-        None => true,
+    match kind {
+        Ok(known) => match fixed_count(k, known) {
+            Some(fixed) => text::count_fields(file, a, e) == fixed,
+            None => true,
+        },
+        Err(_) => true,
     }
 }
 

@@ -125,15 +125,15 @@ module _ (grouped : Bool) (count : ℕ) (fs : List Field) {k : Kind} where
 module _ (s : State) {all : List Field} {f : Field} {fs : List Field} (d : all ≡ f ∷ fs) where
   module _ {grouped : Bool} {count : ℕ} (form : s.grouped ≡ grouped) (terms : length s.terms ≡ count) (k : Kind) (q : ok (known_kind k) ≡ kind_field s f) where
     -- the number of fields is right
-    pub parse_on : true ≡ well_counted s k all → parse s all ≡ kind_content k grouped count fs
+    pub parse_on : true ≡ well_counted s (ok k) all → parse s all ≡ kind_content k grouped count fs
     unfolding kind_content
     parse_on c = ap (parse s) d ∙ parse_law s f fs k form terms q
-        ∙ ap (λ b. cond b (content (known_kind k) grouped count fs) (refused refusal.Form)) (sym (c ∙ ap (well_counted s k) d))
+        ∙ ap (λ b. cond b (content (known_kind k) grouped count fs) (refused refusal.Form)) (sym (c ∙ ap (well_counted s (ok k)) d))
 
     -- it is not
-    pub parse_count : false ≡ well_counted s k all → parse s all ≡ refused refusal.Form
+    pub parse_count : false ≡ well_counted s (ok k) all → parse s all ≡ refused refusal.Form
     parse_count c = ap (parse s) d ∙ parse_law s f fs k form terms q
-        ∙ ap (λ b. cond b (content (known_kind k) grouped count fs) (refused refusal.Form)) (sym (c ∙ ap (well_counted s k) d))
+        ∙ ap (λ b. cond b (content (known_kind k) grouped count fs) (refused refusal.Form)) (sym (c ∙ ap (well_counted s (ok k)) d))
 
   -- the line has no kind
   pub parse_not : {x : Refusal} → refused x ≡ kind_field s f → parse s all ≡ refused x

@@ -115,7 +115,7 @@ fn read_line(
     let c = Cursor { at: a, end: e };
     let first = c.field(file)?;
     let kind = fields::line_kind(file, k, first.start, first.end)?;
-    if !fields::counted(file, k, kind, a, e) {
+    if !fields::counted(file, k, Ok(kind), a, e) {
         return Err(Refusal::Form);
     }
     read_kind(file, names, refs, rows, recs, lists, k, n, kind, first.next)
