@@ -1,1 +1,1 @@
--- No definitions: the contracts cite those of std.
+pub mod Heads

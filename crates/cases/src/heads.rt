@@ -2,6 +2,7 @@
 ghost use Rattle.std.specs.Prelude.{◌-◌, ◌≤◌, ◌≡◌, length, IfSome, IfOk};
 ghost use Rattle.model.specs.Lists.{part};
 ghost use Rattle.cases.specs.declared.TheConstants.{MOST_FILE, MOST_WORK, MOST_ROOM};
+ghost use Rattle.cases.specs.Heads.{BeginsWith};
 
 use super::{MOST_FILE, MOST_ROOM, MOST_WORK};
 use std::fmt;
@@ -61,12 +62,13 @@ pub enum NoCase {
     File,
 }
 
+// The line that a program prints of it, which it writes at once.
 impl fmt::Display for NoCase {
     fn fmt<W: fmt::Write>(&self, f: &mut fmt::Formatter<W>) -> fmt::Result {
         f.write_str(match self {
-            NoCase::Line => "no case",
-            NoCase::Head => "no head line",
-            NoCase::File => "no whole case",
+            NoCase::Line => "no case\n",
+            NoCase::Head => "no head line\n",
+            NoCase::File => "no whole case\n",
         })
     }
 }
@@ -90,7 +92,9 @@ fn size_in(field: &[u8], most: usize) -> Option<usize>
 }
 
 // Reads a head line, whatever its first word is. The sizes that it leaves out at its end are 0.
-fn head_of(line: &[u8]) -> Option<Head<'_>> {
+fn head_of(line: &[u8]) -> Option<Head<'_>>
+    ensures { IfSome result (λ h. BeginsWith line.now h.call.now h.name.now) }
+{
     if MOST_HEAD < line.len() {
         return None;
     }
@@ -122,8 +126,9 @@ fn head_of(line: &[u8]) -> Option<Head<'_>> {
 
 // Reads the case at the start of a window; or says what is missing.
 pub fn begin_case(window: &[u8]) -> Result<Case<'_>, NoCase>
-    ensures { IfOk result (λ c. (c.end ≤ length window.now) × (length c.file.now ≤ c.end)
+    ensures placed { IfOk result (λ c. (c.end ≤ length window.now) × (length c.file.now ≤ c.end)
         × (c.file.now ≡ part window.now (c.end - length c.file.now) c.end)) }
+    ensures named { IfOk result (λ c. BeginsWith window.now c.call.now c.name.now) }
 {
     let stop = text::find(window, b'\n', 0, window.len());
     if window.len() <= stop {

@@ -1,19 +1,18 @@
 // The slices that a case lends, filled with other words before its call and looked at after it.
-use super::{MOST_ROOM, MOST_WORK};
 use model::{Refusal, Verdict};
-use std::io;
 use std::io::Write;
 
-// The working slices and the result slice.
-#[derive(Drop)]
-pub struct Lent {
-    pub w0: [u32; MOST_WORK],
-    pub w1: [u32; MOST_WORK],
-    pub w2: [u32; MOST_WORK],
-    pub w3: [u32; MOST_WORK],
-    pub w4: [u32; MOST_WORK],
-    pub w5: [u32; MOST_WORK],
-    pub result: [u32; MOST_ROOM],
+// What a case lent, after its call: the working slices and the result slice, an empty one where none was lent. The program has
+// the arrays: so they are filled and looked at where they stand.
+#[derive(Clone, Copy)]
+pub struct Lent<'a> {
+    pub w0: &'a [u32],
+    pub w1: &'a [u32],
+    pub w2: &'a [u32],
+    pub w3: &'a [u32],
+    pub w4: &'a [u32],
+    pub w5: &'a [u32],
+    pub result: &'a [u32],
 }
 
 // The number of a word before a call: slices and places differ, none is zero, and every second one is large.
@@ -25,8 +24,8 @@ fn dirt(slice: usize, i: usize) -> u32 {
     4294967295 - n as u32
 }
 
-// Fills a slice with other words.
-fn soil(w: &mut [u32], slice: usize) {
+// Fills a slice with other words, before a call.
+pub fn soil(w: &mut [u32], slice: usize) {
     for (i, word) in w.iter_mut().enumerate() {
         *word = dirt(slice, i);
     }
@@ -53,47 +52,25 @@ fn zeros_after(v: Verdict) -> usize {
     }
 }
 
-impl Lent {
-    // The slices of a case, filled with other words.
-    pub fn new() -> Lent {
-        let mut lent = Lent {
-            w0: [0; MOST_WORK],
-            w1: [0; MOST_WORK],
-            w2: [0; MOST_WORK],
-            w3: [0; MOST_WORK],
-            w4: [0; MOST_WORK],
-            w5: [0; MOST_WORK],
-            result: [0; MOST_ROOM],
-        };
-        soil(&mut lent.w0, 0);
-        soil(&mut lent.w1, 1);
-        soil(&mut lent.w2, 2);
-        soil(&mut lent.w3, 3);
-        soil(&mut lent.w4, 4);
-        soil(&mut lent.w5, 5);
-        soil(&mut lent.result, 6);
-        lent
-    }
-
+impl Lent<'_> {
     // Prints whether the slices came back from a call as the documents say: the working slices cleared, unless they were too
-    // short, and the result slice as it was from a place on.
-    pub fn print<W: Write>(&self, out: &mut W, v: Verdict, kept: usize) -> io::Result<()> {
+    // short, and the result slice as it was from a place on. Where a write fails, the next line is written all the same.
+    pub fn print<W: Write>(&self, out: &mut W, v: Verdict, kept: usize) {
         let zeros = zeros_after(v);
-        let work: [&[u32]; 6] = [&self.w0, &self.w1, &self.w2, &self.w3, &self.w4, &self.w5];
+        let work = [self.w0, self.w1, self.w2, self.w3, self.w4, self.w5];
         let mut good = true;
         for (i, w) in work.iter().enumerate() {
             if !is_left(w, i, zeros) {
-                writeln!(out, "slices,wrong,{i}")?;
+                let _ = writeln!(out, "slices,wrong,{i}");
                 good = false;
             }
         }
-        if !is_left_from(&self.result, 6, kept) {
-            out.write_all(b"slices,wrong,result\n")?;
+        if !is_left_from(self.result, 6, kept) {
+            let _ = out.write_all(b"slices,wrong,result\n");
             good = false;
         }
         if good {
-            out.write_all(b"slices,ok\n")?;
+            let _ = out.write_all(b"slices,ok\n");
         }
-        Ok(())
     }
 }

@@ -16,28 +16,29 @@ use std::io::Write;
 // The rows that a working slice of a case can hold.
 const MOST_ROWS: usize = 8200;
 
-// The rows of a call, of which there are so many, taken out of the run's slice, where zeros stand then.
-fn take_rows(run: &mut [u32], count: usize) -> [u32; cases::MOST_WORK]
-    requires { (length run.old ≡ MOST_WORK) × (count ≤ MOST_ROWS) }
+// Moves the rows of a call, of which there are so many, out of the run's slice, where zeros stand then.
+fn take_rows(run: &mut [u32], count: usize, rows: &mut [u32])
+    requires { (length run.old ≡ MOST_WORK) × (length rows.old ≡ MOST_WORK) × (count ≤ MOST_ROWS) }
 {
-    let mut rows = [0u32; cases::MOST_WORK];
-    words::copy(run, 0, &mut rows, 0, 2 * count);
+    words::copy(run, 0, rows, 0, 2 * count);
     rows::clear_rows(run, count);
-    rows
 }
 
-// Runs a case of the reasons and prints its answer and how the slices came back. The lent slices are taken apart here and
-// below, since a call takes six of them at once, which cannot be lent out of one struct.
-fn run_why<W: Write>(writer: &mut W, case: Case<'_>) -> io::Result<()> {
-    let Lent {
-        mut w0,
-        mut w1,
-        mut w2,
-        mut w3,
-        mut w4,
-        mut w5,
-        result,
-    } = Lent::new();
+// Runs a case of the reasons and prints its answer and how the slices came back. The lent slices are arrays apart here and below,
+// since a call takes six of them at once, which cannot be lent out of one struct.
+fn run_why<W: Write>(writer: &mut W, case: Case<'_>) {
+    let mut w0 = [0u32; cases::MOST_WORK];
+    let mut w1 = [0u32; cases::MOST_WORK];
+    let mut w2 = [0u32; cases::MOST_WORK];
+    let mut w3 = [0u32; cases::MOST_WORK];
+    let mut w4 = [0u32; cases::MOST_WORK];
+    let mut w5 = [0u32; cases::MOST_WORK];
+    cases::soil(&mut w0, 0);
+    cases::soil(&mut w1, 1);
+    cases::soil(&mut w2, 2);
+    cases::soil(&mut w3, 3);
+    cases::soil(&mut w4, 4);
+    cases::soil(&mut w5, 5);
     let s = case.sizes;
     let why = explain::explain(
         case.file,
@@ -51,20 +52,22 @@ fn run_why<W: Write>(writer: &mut W, case: Case<'_>) -> io::Result<()> {
         s.room,
     );
     if MOST_ROWS < why.rows {
-        return writeln!(writer, "too many rows");
+        let _ = writer.write_all(b"too many rows\n");
+        return;
     }
-    let rows = take_rows(&mut w5, why.rows);
-    row_printing::print_why(writer, case.file, why, &rows)?;
+    let mut rows = [0u32; cases::MOST_WORK];
+    take_rows(&mut w5, why.rows, &mut rows);
+    let _ = row_printing::print_why(writer, case.file, why, &rows);
     let lent = Lent {
-        w0,
-        w1,
-        w2,
-        w3,
-        w4,
-        w5,
-        result,
+        w0: &w0,
+        w1: &w1,
+        w2: &w2,
+        w3: &w3,
+        w4: &w4,
+        w5: &w5,
+        result: &[],
     };
-    lent.print(writer, why.verdict, 0)
+    lent.print(writer, why.verdict, 0);
 }
 
 // Prints the lines of an answer of the sweep.
@@ -77,16 +80,21 @@ fn print_sweep<W: Write>(writer: &mut W, file: &[u8], a: Swept, out: &[u32]) -> 
 }
 
 // Runs a case of the sweep and prints its answer and how the slices came back.
-fn run_sweep<W: Write>(writer: &mut W, case: Case<'_>) -> io::Result<()> {
-    let Lent {
-        mut w0,
-        mut w1,
-        mut w2,
-        mut w3,
-        mut w4,
-        mut w5,
-        mut result,
-    } = Lent::new();
+fn run_sweep<W: Write>(writer: &mut W, case: Case<'_>) {
+    let mut w0 = [0u32; cases::MOST_WORK];
+    let mut w1 = [0u32; cases::MOST_WORK];
+    let mut w2 = [0u32; cases::MOST_WORK];
+    let mut w3 = [0u32; cases::MOST_WORK];
+    let mut w4 = [0u32; cases::MOST_WORK];
+    let mut w5 = [0u32; cases::MOST_WORK];
+    let mut result = [0u32; cases::MOST_ROOM];
+    cases::soil(&mut w0, 0);
+    cases::soil(&mut w1, 1);
+    cases::soil(&mut w2, 2);
+    cases::soil(&mut w3, 3);
+    cases::soil(&mut w4, 4);
+    cases::soil(&mut w5, 5);
+    cases::soil(&mut result, 6);
     let s = case.sizes;
     let a = sweep::sweep(
         case.file,
@@ -98,31 +106,34 @@ fn run_sweep<W: Write>(writer: &mut W, case: Case<'_>) -> io::Result<()> {
         &mut w5[..s.n5],
         &mut result[..s.room],
     );
-    print_sweep(writer, case.file, a, &result)?;
+    let _ = print_sweep(writer, case.file, a, &result);
     let kept = printing::sum_counts(a.kept);
     let lent = Lent {
-        w0,
-        w1,
-        w2,
-        w3,
-        w4,
-        w5,
-        result,
+        w0: &w0,
+        w1: &w1,
+        w2: &w2,
+        w3: &w3,
+        w4: &w4,
+        w5: &w5,
+        result: &result,
     };
-    lent.print(writer, a.verdict, kept)
+    lent.print(writer, a.verdict, kept);
 }
 
 // Runs a case of the check and prints its answer and how the slices came back.
-fn run_order<W: Write>(writer: &mut W, case: Case<'_>) -> io::Result<()> {
-    let Lent {
-        mut w0,
-        mut w1,
-        mut w2,
-        mut w3,
-        mut w4,
-        mut w5,
-        result,
-    } = Lent::new();
+fn run_order<W: Write>(writer: &mut W, case: Case<'_>) {
+    let mut w0 = [0u32; cases::MOST_WORK];
+    let mut w1 = [0u32; cases::MOST_WORK];
+    let mut w2 = [0u32; cases::MOST_WORK];
+    let mut w3 = [0u32; cases::MOST_WORK];
+    let mut w4 = [0u32; cases::MOST_WORK];
+    let mut w5 = [0u32; cases::MOST_WORK];
+    cases::soil(&mut w0, 0);
+    cases::soil(&mut w1, 1);
+    cases::soil(&mut w2, 2);
+    cases::soil(&mut w3, 3);
+    cases::soil(&mut w4, 4);
+    cases::soil(&mut w5, 5);
     let s = case.sizes;
     let order = precedence::check_order(
         case.file,
@@ -135,34 +146,37 @@ fn run_order<W: Write>(writer: &mut W, case: Case<'_>) -> io::Result<()> {
         s.room,
     );
     if MOST_ROWS < order.rows {
-        return writeln!(writer, "too many rows");
+        let _ = writer.write_all(b"too many rows\n");
+        return;
     }
-    let rows = take_rows(&mut w5, order.rows);
-    row_printing::print_order(writer, case.file, order, &rows)?;
+    let mut rows = [0u32; cases::MOST_WORK];
+    take_rows(&mut w5, order.rows, &mut rows);
+    let _ = row_printing::print_order(writer, case.file, order, &rows);
     let lent = Lent {
-        w0,
-        w1,
-        w2,
-        w3,
-        w4,
-        w5,
-        result,
+        w0: &w0,
+        w1: &w1,
+        w2: &w2,
+        w3: &w3,
+        w4: &w4,
+        w5: &w5,
+        result: &[],
     };
-    lent.print(writer, order.verdict, 0)
+    lent.print(writer, order.verdict, 0);
 }
 
 // Runs a case by the first word of its head line.
-fn run<W: Write>(writer: &mut W, case: Case<'_>) -> io::Result<()> {
+fn run<W: Write>(writer: &mut W, case: Case<'_>) {
     match case.call {
         b"why" => run_why(writer, case),
         b"sweep" => run_sweep(writer, case),
         b"order" => run_order(writer, case),
-        _ => writeln!(writer, "no such call"),
+        _ => {
+            let _ = writer.write_all(b"no such call\n");
+        }
     }
 }
 
 // Runs the cases of standard input.
 fn main(rt: HostRuntime) {
-    // Where standard output cannot be written, nothing more can be said.
-    let _ = cases::run_all(&mut rt.stdin(), &mut rt.stdout(), run);
+    cases::run_all(&mut rt.stdin(), &mut rt.stdout(), run);
 }

@@ -21,17 +21,22 @@ fn print<W: Write>(writer: &mut W, file: &[u8], a: Answer, out: &[u32]) -> io::R
     printing::print(writer, file, a, out, &mut starts, &mut text)
 }
 
-// Runs a case and prints its answer and how the slices came back.
-fn run<W: Write>(writer: &mut W, case: Case<'_>) -> io::Result<()> {
-    let Lent {
-        mut w0,
-        mut w1,
-        mut w2,
-        mut w3,
-        mut w4,
-        mut w5,
-        mut result,
-    } = Lent::new();
+// Runs a case and prints its answer and how the slices came back; the second where the first cannot be written too.
+fn run<W: Write>(writer: &mut W, case: Case<'_>) {
+    let mut w0 = [0u32; cases::MOST_WORK];
+    let mut w1 = [0u32; cases::MOST_WORK];
+    let mut w2 = [0u32; cases::MOST_WORK];
+    let mut w3 = [0u32; cases::MOST_WORK];
+    let mut w4 = [0u32; cases::MOST_WORK];
+    let mut w5 = [0u32; cases::MOST_WORK];
+    let mut result = [0u32; cases::MOST_ROOM];
+    cases::soil(&mut w0, 0);
+    cases::soil(&mut w1, 1);
+    cases::soil(&mut w2, 2);
+    cases::soil(&mut w3, 3);
+    cases::soil(&mut w4, 4);
+    cases::soil(&mut w5, 5);
+    cases::soil(&mut result, 6);
     let s = case.sizes;
     let a = filter::filter(
         case.file,
@@ -43,22 +48,21 @@ fn run<W: Write>(writer: &mut W, case: Case<'_>) -> io::Result<()> {
         &mut w5[..s.n5],
         &mut result[..s.room],
     );
-    print(writer, case.file, a, &result)?;
+    let _ = print(writer, case.file, a, &result);
     let kept = printing::sum_counts(a.kept);
     let lent = Lent {
-        w0,
-        w1,
-        w2,
-        w3,
-        w4,
-        w5,
-        result,
+        w0: &w0,
+        w1: &w1,
+        w2: &w2,
+        w3: &w3,
+        w4: &w4,
+        w5: &w5,
+        result: &result,
     };
-    lent.print(writer, a.verdict, kept)
+    lent.print(writer, a.verdict, kept);
 }
 
 // Runs the cases of standard input.
 fn main(rt: HostRuntime) {
-    // Where standard output cannot be written, nothing more can be said.
-    let _ = cases::run_all(&mut rt.stdin(), &mut rt.stdout(), run);
+    cases::run_all(&mut rt.stdin(), &mut rt.stdout(), run);
 }

@@ -5,15 +5,21 @@
 ghost use Rattle.std.specs.Prelude.{◌+◌, ◌≤◌, ◌<◌, length};
 ghost use Rattle.test_gather.specs.Tables.{Blank, UnmarkedTable};
 
-use std::io;
 use std::io::Write;
 
-// Prints a line: the name of the table, and how many names were gathered or that there was no room.
-fn show<W: Write>(out: &mut W, label: &str, walked: Option<usize>) -> io::Result<()> {
+// Prints a line: the name of the table, and how many names were gathered or that there was no room. Where a part cannot be
+// written, the next one is written all the same.
+fn show<W: Write>(out: &mut W, label: &[u8], walked: Option<usize>) {
+    let _ = out.write_all(label);
     match walked {
-        Some(n) => writeln!(out, "{label} {n}"),
-        None => writeln!(out, "{label} full"),
+        Some(n) => {
+            let _ = write!(out, "{n}");
+        }
+        None => {
+            let _ = out.write_all(b"full");
+        }
     }
+    let _ = out.write_all(b"\n");
 }
 
 // Pushes so many references to a term.
@@ -195,19 +201,22 @@ fn walked(shape: Shape, code: u32, listed: bool, room: usize) -> Option<usize>
 }
 
 // One line for each table; in the sixth name 5 is excluded.
-fn show_all<W: Write>(out: &mut W) -> io::Result<()> {
+fn show_all<W: Write>(out: &mut W) {
     let excluded = names::EXCLUDED_MARK as u32;
-    show(out, "deep", walked(Shape::Deep, 0, false, 2048))?;
-    show(out, "chain", walked(Shape::Chain, 0, false, 2048))?;
-    show(out, "chain", walked(Shape::Chain, 0, false, 2047))?;
-    show(out, "wide", walked(Shape::Wide, 0, false, 2048))?;
-    show(out, "list", walked(Shape::Wide, 0, true, 2048))?;
-    show(out, "excluded", walked(Shape::Call, excluded, false, 2048))?;
-    show(out, "patterns", walked(Shape::Patterns, 0, false, 2048))
+    show(out, b"deep ", walked(Shape::Deep, 0, false, 2048));
+    show(out, b"chain ", walked(Shape::Chain, 0, false, 2048));
+    show(out, b"chain ", walked(Shape::Chain, 0, false, 2047));
+    show(out, b"wide ", walked(Shape::Wide, 0, false, 2048));
+    show(out, b"list ", walked(Shape::Wide, 0, true, 2048));
+    show(
+        out,
+        b"excluded ",
+        walked(Shape::Call, excluded, false, 2048),
+    );
+    show(out, b"patterns ", walked(Shape::Patterns, 0, false, 2048));
 }
 
 // Prints to standard output.
 fn main(rt: HostRuntime) {
-    // Where standard output cannot be written, nothing more can be said.
-    let _ = show_all(&mut rt.stdout());
+    show_all(&mut rt.stdout());
 }

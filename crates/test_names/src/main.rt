@@ -3,14 +3,13 @@
 // table. Of a long table only some ranks are printed.
 #![tactic(auto)]
 
-ghost use Rattle.std.specs.Prelude.{◌≤◌, ◌<◌, ◌≡◌, length, IfOk};
+ghost use Rattle.std.specs.Prelude.{◌≤◌, ◌<◌, ◌≡◌, length};
 ghost use Rattle.model.specs.Reading.{most_names};
 ghost use Rattle.text.specs.Parts.{Placed};
 ghost use Rattle.names.specs.Table.{Table};
 ghost use Rattle.test_names.specs.Counts.{count_after};
 
 use names::Spelled;
-use std::io;
 use std::io::Write;
 use text::Cursor;
 
@@ -79,33 +78,32 @@ fn all_fields(file: &[u8], table: &mut [u32], named: usize, from: Cursor) -> usi
     known
 }
 
-// Prints the name of a number, with its head code.
-fn put_name<W: Write>(
-    out: &mut W,
-    file: &[u8],
-    table: &[u32],
-    named: usize,
-    n: usize,
-) -> io::Result<()>
+// Prints the name of a number, with its head code. Here and below, where a write fails, what comes after it is written all the
+// same.
+fn put_name<W: Write>(out: &mut W, file: &[u8], table: &[u32], named: usize, n: usize)
     requires { Table file.now table.now named × (n < named) }
 {
-    write!(out, "{n} ")?;
-    out.write_all(names::name_part(file, table, named, n))?;
     let code = names::code_at(table, n);
-    writeln!(out, " {code}")
+    let _ = write!(out, "{n}");
+    let _ = out.write_all(b" ");
+    let _ = out.write_all(names::name_part(file, table, named, n));
+    let _ = out.write_all(b" ");
+    let _ = write!(out, "{code}");
+    let _ = out.write_all(b"\n");
 }
 
 // Prints the names in byte order.
-fn put_index<W: Write>(out: &mut W, file: &[u8], table: &[u32], named: usize) -> io::Result<()>
+fn put_index<W: Write>(out: &mut W, file: &[u8], table: &[u32], named: usize)
     requires { Table file.now table.now named }
 {
-    writeln!(out, "names {named}")?;
+    let _ = out.write_all(b"names ");
+    let _ = write!(out, "{named}");
+    let _ = out.write_all(b"\n");
     for r in 0..named {
         if named < 120 || r % 256 == 255 {
-            put_name(out, file, table, named, words::at(table, names::INDEX + r))?;
+            put_name(out, file, table, named, words::at(table, names::INDEX + r));
         }
     }
-    Ok(())
 }
 
 // One line: its fields, or a new table; answers how many names the table then has.
@@ -116,19 +114,19 @@ fn one_line<W: Write>(
     named: usize,
     start: usize,
     end: usize,
-) -> io::Result<usize>
+) -> usize
     requires { Table file.now table.old named × (start ≤ end) × (end ≤ length file.now) }
-    ensures { IfOk result (λ known. Table file.now table.new known) }
+    ensures { Table file.now table.new result }
 {
     if text::same_text(file, start, end, b"=") {
-        put_index(out, file, table, named)?;
-        return Ok(0);
+        put_index(out, file, table, named);
+        return 0;
     }
-    Ok(all_fields(file, table, named, Cursor { at: start, end }))
+    all_fields(file, table, named, Cursor { at: start, end })
 }
 
 // All lines, from a table without names.
-fn all_lines<W: Write>(out: &mut W, file: &[u8], table: &mut [u32]) -> io::Result<()>
+fn all_lines<W: Write>(out: &mut W, file: &[u8], table: &mut [u32])
     requires { Table file.now table.old 0 }
 {
     let mut named: usize = 0;
@@ -136,10 +134,9 @@ fn all_lines<W: Write>(out: &mut W, file: &[u8], table: &mut [u32]) -> io::Resul
     // Names stand in the table by their places in the file, so a line is a place and no slice of its own.
     while from < file.len() {
         let end = text::find(file, b'\n', from, file.len());
-        named = one_line(out, file, table, named, from, end)?;
+        named = one_line(out, file, table, named, from, end);
         from = end + 1;
     }
-    Ok(())
 }
 
 // Reads standard input; more than 65,535 bytes are not looked at.
@@ -150,6 +147,5 @@ fn main(rt: HostRuntime) {
         return;
     }
     let mut table = [0u32; 16384];
-    // Where standard output cannot be written, nothing more can be said.
-    let _ = all_lines(&mut rt.stdout(), &file[..n], &mut table);
+    all_lines(&mut rt.stdout(), &file[..n], &mut table);
 }

@@ -8,7 +8,7 @@ ghost use Rattle.model.specs.Outcome.{most_bytes};
 use std::io;
 use std::io::Write;
 
-// Reads one file into new tables.
+// Reads one file into new tables, and prints what it comes to.
 fn one_file<W: Write>(out: &mut W, file: &[u8]) -> io::Result<()>
     requires { length file.now ≤ most_bytes }
 {
@@ -45,8 +45,8 @@ fn next_ask(input: &[u8], start: usize) -> usize
     input.len()
 }
 
-// Reads each file, from one `ask` line up to the next.
-fn all_files<W: Write>(out: &mut W, input: &[u8]) -> io::Result<()>
+// Reads each file, from one `ask` line up to the next. Where a write fails, it goes on with the next file.
+fn all_files<W: Write>(out: &mut W, input: &[u8])
     requires { length input.now ≤ most_bytes }
 {
     let mut from = 0;
@@ -57,10 +57,9 @@ fn all_files<W: Write>(out: &mut W, input: &[u8]) -> io::Result<()>
         if end < input.len() {
             upto = next_ask(input, end + 1);
         }
-        one_file(out, &input[from..upto])?;
+        let _ = one_file(out, &input[from..upto]);
         from = upto;
     }
-    Ok(())
 }
 
 // Reads standard input; more than 65,535 bytes are not looked at.
@@ -70,6 +69,5 @@ fn main(rt: HostRuntime) {
     if model::MOST_BYTES < n {
         return;
     }
-    // Where standard output cannot be written, nothing more can be said.
-    let _ = all_files(&mut rt.stdout(), &input[..n]);
+    all_files(&mut rt.stdout(), &input[..n]);
 }

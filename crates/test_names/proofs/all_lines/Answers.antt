@@ -3,8 +3,8 @@ use Rattle.text.proofs.Laws.{mark_from, mark_to}
 use native.Mathlib.Omega.{arith}
 use Rattle.test_names.proofs.all_lines.Goals as goal
 
-pub one_line-requires : goal.one_line-requires
-one_line-requires g c =
+pub one_line-named-requires : goal.one_line-named-requires
+one_line-named-requires g c =
     (c.loop-from.invariant.1, mark_from _ _ _ _ _ c.find-end.ensures, mark_to _ _ _ _ _ c.find-end.ensures (omega arith) (omega arith))
 
 pub overflow_add-from : goal.overflow_add-from
