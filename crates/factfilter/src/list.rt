@@ -1,11 +1,12 @@
 // The plain use: the kept records of each ask, or the refusal.
-ghost use Rattle.std.specs.Prelude.{◌≤◌, length, OnOk};
+ghost use Rattle.std.specs.Prelude.{◌≤◌, ◌≡◌, length, Err, OnOk};
 ghost use Rattle.std.specs.Io.KnownBytes.{Appends};
 ghost use Rattle.std.specs.List.{concat};
 ghost use Rattle.model.specs.Outcome.{Outcome, most_kept, outcome};
 ghost use Rattle.model.specs.Text.{printed};
 ghost use Rattle.printing.specs.Answers.{Told};
 ghost use Rattle.factfilter.specs.Filters.{Filters, own_slices};
+ghost use Rattle.factfilter.specs.declared.errors.Error.TheVariants.{Unwritten};
 
 use crate::errors::{self, Error};
 use model::Answer;
@@ -54,6 +55,8 @@ fn answer<W: Write>(writer: &mut W, file: &[u8]) -> io::Result<Answer>
 // Filters a file and prints the answer; a refusal is an error too.
 pub fn run<W: Write>(writer: &mut W, file: &[u8]) -> Result<(), Error>
     requires { length file.now ≤ 65536 }
+    ensures { (result ≡ Err Unwritten → ⊥) → Appends (W.contents writer.old) (W.contents writer.new)
+        (concat (printed file.now (outcome file.now own_slices most_kept))) }
 {
     let a = answer(writer, file)?;
     errors::told(a.verdict, a.place)

@@ -10,7 +10,14 @@ mod summaries;
 mod swept;
 mod why;
 
-ghost use Rattle.std.specs.Prelude.{◌≤◌, length, IfOk};
+ghost use Rattle.std.specs.Prelude.{◌≤◌, ◌≡◌, length, Err, IfOk};
+ghost use Rattle.std.specs.Io.KnownBytes.{Appends};
+ghost use Rattle.std.specs.List.{concat};
+ghost use Rattle.model.specs.Outcome.{most_kept, outcome};
+ghost use Rattle.model.specs.Text.{printed};
+ghost use Rattle.factfilter.specs.Filters.{own_slices};
+ghost use Rattle.factfilter.specs.declared.Call.TheVariants.{List};
+ghost use Rattle.factfilter.specs.declared.errors.Error.TheVariants.{Unwritten};
 
 use errors::Error;
 use std::env::{Env, FillError};
@@ -126,6 +133,8 @@ fn read_command(rt: &impl Env) -> Result<Call, Error> {
 // Makes a call of a file and prints what it comes to; a refusal is an error too.
 fn run<W: Write>(writer: &mut W, file: &[u8], c: Call) -> Result<(), Error>
     requires { length file.now ≤ 65536 }
+    ensures { c ≡ List → (result ≡ Err Unwritten → ⊥) → Appends (W.contents writer.old) (W.contents writer.new)
+        (concat (printed file.now (outcome file.now own_slices most_kept))) }
 {
     match c {
         Call::List => list::run(writer, file),
