@@ -5,7 +5,7 @@ use native.Mathlib.Omega.{arith}
 use mathlib.Core.Path.{◌≡◌, refl, sym, ◌∙◌}
 use mathlib.Core.Bool.{Bool, true, false, cond, false≢true, ◌||◌}
 use mathlib.Core.Logic.{⊎_elim}
-use Rattle.terms.proofs.Laws.{below, equal}
+use Rattle.terms.proofs.Laws.{equal}
 use mathlib.Core.List.{List, [], ◌∷◌}
 use lib.Dec.{eqb}
 use borrow.Author.Tests.{eq-eqb, ne_eqb, lt-ltb, le-ltb}
@@ -60,18 +60,13 @@ query_is recs first (suc n) i q x l m e h = ⊎_elim
     or_true false = refl
 
 -- it is another
-pub query_other : (recs : List ℕ) (first n q x : ℕ) → first ≤ n → x ≡ ask_query recs n → (x ≡ q → ⊥)
-    → any (eqb q) (queries_of recs first (n + 1)) ≡ any (eqb q) (queries_of recs first n)
+pub query_other : (recs : List ℕ) (first n q x : ℕ) → first < n → x ≡ ask_query recs (n - 1) → (x ≡ q → ⊥)
+    → any (eqb q) (queries_of recs first n) ≡ any (eqb q) (queries_of recs first (n - 1))
 unfolding any
-query_other recs first n q x l e h = rw (add-one n, one_query recs first n l, ne_eqb q (ask_query recs n) (λ z. h (e ∙ sym z)))
-
--- those before the place that is reached are all of them
-pub all_asked : (recs : List ℕ) (first n i q : ℕ) → n ≤ i → (first ≤ n → i ≤ n) → any (eqb q) (queries_of recs first i) ≡ false
-    → any (eqb q) (queries_of recs first n) ≡ false
-all_asked recs first n i q l up h = ⊎_elim
-    (λ d. none_asked recs first n q (omega arith))
-    (λ (b : first ≤ n). let e : i ≡ n = omega (arith, up b) in rw e at h)
-    (below n first)
+query_other recs first zero q x l e h = absurd (omega arith)
+query_other recs first (suc n) q x l e h =
+    let one : suc n - 1 ≡ n = omega arith in
+    rw (one, one_query recs first n (omega arith), ne_eqb q (ask_query recs n) (λ z. h ((rw one at e) ∙ sym z)))
 
 -- whether a query is an ask's, by its queries
 pub asked_for : (recs : List ℕ) (a : Asked) (q : ℕ) → asks_for (ask_of recs a) q ≡ any (eqb q) (queries_of recs a.first a.end)

@@ -225,7 +225,7 @@ pub fn asks_for(recs: &[u32], a: Asked, q: usize) -> bool
     requires { (a.end ≤ ask_room) × (working_words ≤ length recs.now) }
     ensures { result ≡ asks_for (ask_of recs.now a) q }
 {
-    for i in a.first..a.end {
+    for i in (a.first..a.end).rev() {
         if words::at(recs, ASK_QUERY + i) == q {
             return true;
         }
