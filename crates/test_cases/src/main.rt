@@ -21,7 +21,7 @@ fn print<W: Write>(writer: &mut W, file: &[u8], a: Answer, out: &[u32]) -> io::R
     printing::print(writer, file, a, out, &mut starts, &mut text)
 }
 
-// Runs a case and prints its answer and how the slices came back; the second where the first cannot be written too.
+// Runs a case and prints its answer and how the slices came back, this even where a line of the answer cannot be written.
 fn run<W: Write>(writer: &mut W, case: Case<'_>) {
     let mut w0 = [0u32; cases::MOST_WORK];
     let mut w1 = [0u32; cases::MOST_WORK];
