@@ -1,6 +1,6 @@
 -- Laws of the cases: what a line begins with, the bytes begin with that it is the start of.
 use Prim.Native.Nat.{ℕ}
-use mathlib.Core.Path.{◌≡◌, sym, ◌∙◌, ap}
+use mathlib.Core.Path.{sym, ◌∙◌, ap}
 use mathlib.Core.List.{List, ◌∷◌, ◌++◌}
 use lib.ListN.{take, drop}
 use Rattle.std.proofs.lemmas.List.{take-append-drop, append_assoc}
