@@ -16,7 +16,8 @@ ghost use Rattle.std.specs.List.{concat};
 ghost use Rattle.model.specs.Outcome.{most_kept, outcome};
 ghost use Rattle.model.specs.Text.{printed};
 ghost use Rattle.factfilter.specs.Filters.{own_slices};
-ghost use Rattle.factfilter.specs.declared.Call.TheVariants.{List};
+ghost use Rattle.factfilter.specs.Sweeps.{swept_lines};
+ghost use Rattle.factfilter.specs.declared.Call.TheVariants.{List, Sweep};
 ghost use Rattle.factfilter.specs.declared.errors.Error.TheVariants.{Unwritten};
 
 use errors::Error;
@@ -133,8 +134,10 @@ fn read_command(rt: &impl Env) -> Result<Call, Error> {
 // Makes a call of a file and prints what it comes to; a refusal is an error too.
 fn run<W: Write>(writer: &mut W, file: &[u8], c: Call) -> Result<(), Error>
     requires { length file.now ≤ 65536 }
-    ensures { c ≡ List → (result ≡ Err Unwritten → ⊥) → Appends (W.contents writer.old) (W.contents writer.new)
+    ensures listed { c ≡ List → (result ≡ Err Unwritten → ⊥) → Appends (W.contents writer.old) (W.contents writer.new)
         (concat (printed file.now (outcome file.now own_slices most_kept))) }
+    ensures swept { c ≡ Sweep → (result ≡ Err Unwritten → ⊥) → Appends (W.contents writer.old) (W.contents writer.new)
+        (concat (swept_lines file.now)) }
 {
     match c {
         Call::List => list::run(writer, file),

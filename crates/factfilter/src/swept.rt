@@ -1,8 +1,13 @@
 // `sweep`: the kept records of each ask by the second engine, with its passes, or the refusal.
-ghost use Rattle.std.specs.Prelude.{◌≤◌, length};
+ghost use Rattle.std.specs.Prelude.{◌≤◌, ◌≡◌, length, Err, OnOk};
+ghost use Rattle.std.specs.Io.KnownBytes.{Appends};
+ghost use Rattle.std.specs.List.{concat};
 ghost use Rattle.model.specs.Lists.{sum};
-ghost use Rattle.model.specs.Outcome.{most_kept};
-ghost use Rattle.factfilter.specs.Sweeps.{Sweeps};
+ghost use Rattle.model.specs.Outcome.{Outcome, most_kept};
+ghost use Rattle.model.specs.Text.{printed_sweep};
+ghost use Rattle.printing.specs.Answers.{SweptTold};
+ghost use Rattle.factfilter.specs.Sweeps.{Sweeps, swept_lines};
+ghost use Rattle.factfilter.specs.declared.errors.Error.TheVariants.{Unwritten};
 
 use crate::errors::{self, Error};
 use model::Swept;
@@ -11,6 +16,8 @@ use std::io::{self, Write};
 // Prints the lines of an answer.
 fn print<W: Write>(writer: &mut W, file: &[u8], a: Swept, out: &[u32]) -> io::Result<()>
     requires { (length file.now ≤ 65536) × (sum a.kept ≤ length out.now) }
+    ensures { (o : Outcome) → SweptTold a out.now o → OnOk result
+        (Appends (W.contents writer.old) (W.contents writer.new) (concat (printed_sweep file.now o a.passes))) }
 {
     let mut starts = [0u32; 65536];
     let mut text = [0u8; 65664];
@@ -34,12 +41,24 @@ fn sweep_file(file: &[u8], out: &mut [u32]) -> Swept
     )
 }
 
-// Sweeps a file and prints the answer; a refusal is an error too.
-pub fn run<W: Write>(writer: &mut W, file: &[u8]) -> Result<(), Error>
+// Sweeps a file and prints the answer.
+fn answer<W: Write>(writer: &mut W, file: &[u8]) -> io::Result<Swept>
     requires { length file.now ≤ 65536 }
+    ensures { OnOk result (Appends (W.contents writer.old) (W.contents writer.new)
+        (concat (swept_lines file.now))) }
 {
     let mut out = [0u32; model::MOST_KEPT];
     let a = sweep_file(file, &mut out);
     print(writer, file, a, &out)?;
+    Ok(a)
+}
+
+// Sweeps a file and prints the answer; a refusal is an error too.
+pub fn run<W: Write>(writer: &mut W, file: &[u8]) -> Result<(), Error>
+    requires { length file.now ≤ 65536 }
+    ensures { (result ≡ Err Unwritten → ⊥) → Appends (W.contents writer.old) (W.contents writer.new)
+        (concat (swept_lines file.now)) }
+{
+    let a = answer(writer, file)?;
     errors::told(a.verdict, a.place)
 }

@@ -4,3 +4,4 @@ pub mod Sums
 pub mod Lists
 pub mod Answers
 pub mod Written
+pub mod Passes

@@ -6,6 +6,7 @@ use Rattle.model.specs.Reading.{most_asks}
 use Rattle.model.specs.Outcome.{Position, Outcome, refusal_at, lists, answer, result_after}
 use Rattle.model.specs.Text.{printed}
 use Rattle.model.specs.declared.Answer.{Answer}
+use Rattle.model.specs.declared.Swept.{Swept}
 use Rattle.printing.specs.declared.Line.{Line}
 
 -- each position of an outcome has a round
@@ -22,6 +23,19 @@ pub record Told (a : Answer) (out : List ℕ) (o : Outcome) : Type 0 where
 -- they tell one whose printed form has a line at this place, from 0
 abbrev pub LineTold : List ℕ → Answer → List ℕ → ℕ → Type 0
 LineTold file a out j = (o : Outcome) × Told a out o × (j < length (printed file o))
+
+-- each position of an outcome has a pass, and there is none past the last
+abbrev pub EachPass : Outcome → List ℕ → Type 0
+EachPass (refusal_at r place) passes = Unit {0}
+EachPass (lists ps) passes = (i : ℕ) → (i < length ps → 1 ≤ get_or passes i 0) × (length ps ≤ i → get_or passes i 0 ≡ 0)
+
+-- an answer of the sweep and a result slice tell an outcome: its fields but for the visits and rounds, its lists, and passes
+pub record SweptTold (a : Swept) (out : List ℕ) (o : Outcome) : Type 0 where
+  pub verdict : a.verdict ≡ (answer o).verdict
+  pub place : a.place ≡ (answer o).place
+  pub kept : a.kept ≡ (answer o).kept
+  pub listed : result_after o out ≡ out
+  pub passed : EachPass o a.passes
 
 -- a line of the printed lists by its place, from the counts of the lists: behind those of the lists before, each with its sum
 pub record FoundLine (kept : List ℕ) (j : ℕ) (l : Line) : Type 0 where

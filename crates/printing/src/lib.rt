@@ -7,14 +7,14 @@ ghost use Rattle.std.specs.Io.KnownBytes.{Appends};
 ghost use Rattle.std.specs.List.{concat};
 ghost use Rattle.model.specs.Lists.{part, sum};
 ghost use Rattle.model.specs.Lines.{fields};
-ghost use Rattle.model.specs.Outcome.{Outcome};
-ghost use Rattle.model.specs.Text.{show, second, name_on, kept_line, sum_line, refused_line, printed, pass_line};
+ghost use Rattle.model.specs.Outcome.{Position, Outcome, lists};
+ghost use Rattle.model.specs.Text.{show, second, name_on, kept_line, sum_line, refused_line, printed, pass_line, pass_lists, printed_sweep};
 ghost use Rattle.model.specs.Text.{comma, name_in_fields, item_on, row_numbers, row_fields, row_line, late_line, count_line};
 ghost use Rattle.names.specs.Table.{Table};
 ghost use Rattle.rows.specs.Rows.{row};
 ghost use Rattle.printing.specs.Printed.{BytesPut, TextBegins, Starts, Starts-prop, SameFrom, LiesIn, LineSpan, NumberNamed, RowTold};
 ghost use Rattle.printing.specs.Printed.{reason, has_line, reason_line};
-ghost use Rattle.printing.specs.Answers.{Told, LineTold, FoundLine};
+ghost use Rattle.printing.specs.Answers.{Told, SweptTold, LineTold, FoundLine};
 
 use itoa::Buffer;
 use model::{Answer, Refusal, Row, Swept, Verdict};
@@ -445,15 +445,18 @@ fn print_pass<W: Write>(writer: &mut W, kept: u32, passes: u32) -> io::Result<()
 fn print_passes<W: Write>(
     writer: &mut W,
     file: &[u8],
-    kept: [u32; 16],
-    passes: [u32; 16],
+    a: Swept,
     out: &[u32],
     starts: &mut [u32],
     text: &mut [u8],
 ) -> io::Result<()>
     requires { (length file.now ≤ length starts.old) × (length file.now < 4294967296)
-        × (length file.now + 128 ≤ length text.old) × (sum kept ≤ length out.now) }
+        × (length file.now + 128 ≤ length text.old) × (sum a.kept ≤ length out.now) }
+    ensures { (ps : List Position) → SweptTold a out.now (lists ps) → OnOk result
+        (Appends (W.contents writer.old) (W.contents writer.new) (concat (pass_lists file.now ps a.passes))) }
 {
+    let kept = a.kept;
+    let passes = a.passes;
     let many = line_starts(file, starts);
     let lines = Lines { file, starts, many };
     let mut from: usize = 0;
@@ -480,10 +483,12 @@ pub fn print_sweep<W: Write>(
 ) -> io::Result<()>
     requires { (length file.now ≤ length starts.old) × (length file.now < 4294967296)
         × (length file.now + 128 ≤ length text.old) × (sum a.kept ≤ length out.now) }
+    ensures { (o : Outcome) → SweptTold a out.now o → OnOk result
+        (Appends (W.contents writer.old) (W.contents writer.new) (concat (printed_sweep file.now o a.passes))) }
 {
     let v = a.verdict;
     match v {
-        Verdict::Accepted => print_passes(writer, file, a.kept, a.passes, out, starts, text),
+        Verdict::Accepted => print_passes(writer, file, a, out, starts, text),
         Verdict::Refused(r) => print_refusal(writer, r, a.place),
     }
 }

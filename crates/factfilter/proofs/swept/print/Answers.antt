@@ -1,4 +1,4 @@
--- `factfilter::swept::print` is safe and ends.
+-- `factfilter::swept::print` prints the lines of the outcome.
 use native.Mathlib.Omega.{arith}
 use Rattle.factfilter.proofs.swept.print.Goals as goal
 
