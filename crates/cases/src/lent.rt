@@ -1,5 +1,6 @@
 // The slices that a case lends, filled with other words before its call and looked at after it.
 use model::{Refusal, Verdict};
+use std::fmt::Display;
 use std::io::Write;
 
 // What a case lent, after its call: the working slices and the result slice, an empty one where none was lent. The program has
@@ -52,6 +53,13 @@ fn zeros_after(v: Verdict) -> usize {
     }
 }
 
+// Says that a slice is wrong. Where a write fails, the next piece is written all the same.
+fn print_wrong<W: Write, D: Display>(out: &mut W, slice: &D) {
+    let _ = out.write_all(b"slices,wrong,");
+    let _ = write!(out, "{slice}");
+    let _ = out.write_all(b"\n");
+}
+
 impl Lent<'_> {
     // Prints whether the slices came back from a call as the documents say: the working slices cleared, unless they were too
     // short, and the result slice as it was from a place on. Where a write fails, the next line is written all the same.
@@ -61,12 +69,12 @@ impl Lent<'_> {
         let mut good = true;
         for (i, w) in work.iter().enumerate() {
             if !is_left(w, i, zeros) {
-                let _ = writeln!(out, "slices,wrong,{i}");
+                print_wrong(out, &i);
                 good = false;
             }
         }
         if !is_left_from(self.result, 6, kept) {
-            let _ = out.write_all(b"slices,wrong,result\n");
+            print_wrong(out, &"result");
             good = false;
         }
         if good {
