@@ -47,7 +47,7 @@ extern "C" {
 #define WIMPLEJADE_MOST_BYTES 65535
 
 /* The stack, in bytes, that is enough for every call: 2 MB. A call takes 112 bytes for each level of the deepest term, of which
- * there can be 4,096: `make stack` measures each function, 460,824 bytes at most, by wimplejade_filter. */
+ * there can be 4,096: `make stack` measures each function, 460,488 bytes at most, by wimplejade_filter. */
 #define WIMPLEJADE_STACK_BYTES (2u << 20)
 
 /* Why a call is refused; the comment says what `place` is then. A line is counted from 1. A line that passes several

@@ -113,7 +113,7 @@
 //!
 //! # Stack and time
 //!
-//! A call takes 112 bytes of stack for each level of the deepest term, of which there can be 4,096: 460,824 bytes were
+//! A call takes 112 bytes of stack for each level of the deepest term, of which there can be 4,096: 460,488 bytes were
 //! measured at most. [`STACK_BYTES`], 2 MB, is enough for every file; a thread that Rust starts has as much unless it is told
 //! otherwise. A thread with less may end the process, as every overflow of the stack does.
 //!

@@ -89,6 +89,8 @@ fn move_rows(
 }
 
 // Tells the reasons at a position of a file that is open, or refuses with 15.
+// Not inlined: its locals are not on the stack while the lines are read, when a call takes most of it.
+#[inline(never)]
 fn answer_position(
     file: &[u8],
     position: usize,

@@ -170,6 +170,8 @@ fn refused(r: Refusal, place: u32) -> Ordered
 
 // Lists the rows of an open file in words of the run's slice and clears all else that a call uses; or refuses with 8 and clears
 // that too.
+// Not inlined: its locals are not on the stack while the lines are read, when a call takes most of it.
+#[inline(never)]
 fn list_rows(
     w0: &mut [u32],
     w1: &mut [u32],

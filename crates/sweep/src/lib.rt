@@ -72,6 +72,8 @@ fn list_ask(
 
 // Sweeps the positions one after the other; their lists stand end to end from the start of the references' slice on. Apart from
 // `filter`'s for the reason told there.
+// Not inlined: its locals are not on the stack while the lines are read, when a call takes most of it.
+#[inline(never)]
 fn list_asks(file: &[u8], tables: &RecordTables, refs: &mut [u32], run: &mut [u32]) -> Tallied
     requires { SweepsOver file.now tables.now.names.now refs.old tables.now.recs.now tables.now.lists.now run.old tables.now.k }
     ensures replied { Replied (positions_of file.now tables.now.names.now tables.now.recs.now
