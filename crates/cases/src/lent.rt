@@ -25,7 +25,8 @@ fn dirt(slice: usize, i: usize) -> u32 {
     4294967295 - n as u32
 }
 
-// Fills a slice with other words, before a call.
+// Fills a slice with other words, before a call. Its number is the one by which `Lent::print` knows it: 0 to 5 are the working
+// slices, 6 is the result slice.
 pub fn soil(w: &mut [u32], slice: usize) {
     for (i, word) in w.iter_mut().enumerate() {
         *word = dirt(slice, i);
